@@ -1,5 +1,6 @@
 -- How steps are put together.
 use Rattle.std.proofs.Common.{arith, ◌≡◌, ◌<◌, ◌≤◌, ℕ, Bool, true, Option, Some, None, List, [], ◌∷◌, ◌++◌, length, refl, sym, ap, ◌∙◌, subst}
+use Rattle.std.specs.List.{list_any}
 use Rattle.std.proofs.lemmas.Bool.{eq-eqb}
 use Rattle.std.proofs.lemmas.List.{nil_from_length}
 use Rattle.cluster_types.specs.declared.journal.Action.{Action}
@@ -80,17 +81,23 @@ module _ (whole : Bool) (old new : Running) (rest left : Option (List Answer)) w
     events = answer_events (going old) old.since given;
     step = takes rest left given said t.takes;
     goes_on = t.goes_on;
+    adds = refl;
+    applies = t.takes.applies;
     lines = answer_line (going old) old.since given t.takes.applies;
     fewer = rw t.goes_on (take_leaves old given t.takes.applies);
   }
+
+  flies : {given : Answer} (s : EndedSilently old new given) → list_any (is_number_of s.number) (in_flight_by_number (going old) old.since) ≡ true
+  flies s = among_flying (going old) old.since s.number s.action (is_number_of s.number) (eq-eqb s.number s.number refl) s.ends.action s.ends.in_flight
 
   pub answered_silently : (given : Answer) → Says whole rest None left → EndedSilently old new given → Answered whole old new rest left given
   answered_silently given said s = rw s.given_is (record {
     events = ended (going old) old.since s.number (Code (silent_code s.action));
     step = is_silent rest left s.number s.action said s.ends;
     goes_on = s.goes_on;
-    lines = end_line (going old) old.since s.number (silent_code s.action)
-        (among_flying (going old) old.since s.number s.action (is_number_of s.number) (eq-eqb s.number s.number refl) s.ends.action s.ends.in_flight);
+    adds = refl;
+    applies = flies s;
+    lines = end_line (going old) old.since s.number (silent_code s.action) (flies s);
     fewer = rw s.goes_on (silent_leaves old s.number s.action s.ends);
   })
 

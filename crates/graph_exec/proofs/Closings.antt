@@ -1,9 +1,8 @@
 -- How a transition of a run is closed, and how the run ends in its midst.
-use Rattle.std.proofs.Common.{◌≡◌, ℕ, Bool, true, false, List, [], ◌∷◌, ◌++◌, refl, sym, ap, ◌∙◌, subst}
+use Rattle.std.proofs.Common.{◌≡◌, ℕ, Bool, true, false, List, [], ◌∷◌, ◌++◌, append-nil, refl, sym, ap, ◌∙◌, subst}
 use Rattle.std.specs.Prelude.{Option, Some}
 use Rattle.std.specs.List.{flat_map}
-use Rattle.cluster_io.specs.Streams.{Adds, AddsPrefix}
-use Rattle.cluster_types.specs.declared.cluster.Cluster.{Cluster}
+use Rattle.cluster_types.specs.declared.run.RunLine.{RunLine}
 use Rattle.cluster_types.specs.declared.journal.Answer.{Answer}
 use Rattle.cluster_types.specs.declared.journal.Event.{Event}
 use Rattle.cluster_types.specs.declared.journal.Journal.{Journal}
@@ -15,7 +14,7 @@ use Rattle.cluster_types.specs.Steps.{Transition, StepsOn, HasEnded, IsWaiting, 
 use Rattle.cluster_types.specs.Texts.{event_lines}
 use Rattle.graph_exec.specs.Logs.{JournalOf}
 use Rattle.graph_exec.specs.Running.{Running, Went, going, known_of}
-use Rattle.graph_exec.specs.Telling.{closing_line, text_of}
+use Rattle.graph_exec.specs.Telling.{closing_line}
 use Rattle.graph_exec.specs.Transitions.{IsAborted, IsComplete, IsCutBy, WentAsSaid, WentTo}
 use Rattle.graph_exec.specs.Watching.{IsWatcherCutOff, AreLinesTold}
 use Rattle.graph_exec.proofs.Beginning.{found_so}
@@ -36,32 +35,30 @@ at_closed : (k : ℕ) (complete : Bool) (es : List Event) → es ≡ journal_at 
 at_closed k true es = refl
 at_closed k false es = refl
 
-module _ (whole steady : Bool) (names : Option Cluster) (k : ℕ) (r now : Running) (fresh : r.since ≡ []) (rest left : Option (List Answer)) (over over_now : Bool)
-    (before text : Option (List ℕ)) where
+module _ (whole steady : Bool) (k : ℕ) (r now : Running) (fresh : r.since ≡ []) (rest left : Option (List Answer)) (over over_now : Bool) where
   abbrev here_set : Setting
-  here_set = setting r.cluster r.promotions whole steady names
+  here_set = setting r.cluster r.promotions whole steady
 
   module _ (went : Went whole r now rest left) where
     same_going : going now ≡ going r
     same_going = ap going went.same
 
-    module _ (told : AreLinesTold names r now before text) where
+    module _ (First : List RunLine → Type 0) (told : AreLinesTold First r now) where
       went_here : (steady ≡ true → over_now ≡ false → WentAsSaid r now rest left)
-          → HasComeTo here_set (amid k (going r) []) (sight rest over before) (sight left over_now text) (amid k (going r) now.since)
-      went_here said = came_carried here_set k r now fresh rest left over over_now before text went told said
+          → HasComeTo First here_set (amid k (going r) []) (sight rest over) (sight left over_now) (amid k (going r) now.since)
+      went_here said = came_carried here_set k r now fresh First rest left over over_now went told said
 
       module _ (complete : Bool)
-          (step : (w : Bool) (xs : Option (List Answer)) → RunsOn r.cluster r.promotions w (amid k (going r) now.since) xs (closing_line k complete ∷ []) (closed_at k complete (journal (going r) now.since)) xs)
-          (after : Option (List ℕ)) where
-        closed_to : (steady ≡ true → over_now ≡ false → WentAsSaid r now rest left) → Adds text (text_of names (closing_line k complete ∷ [])) after
-            → (j : JournalOf) → j ≡ known_of now
-            → CameTo here_set (amid k (going r) []) (sight rest over before) (sight left over_now after) (closed_at k complete) j
-        closed_to said added j is =
+          (step : (w : Bool) (xs : Option (List Answer)) → RunsOn r.cluster r.promotions w (amid k (going r) now.since) xs (closing_line k complete ∷ []) (closed_at k complete (journal (going r) now.since)) xs) where
+        closed_to : (Then All : List RunLine → Type 0) → ((lines more : List RunLine) → First lines → Then more → All (lines ++ more))
+            → (steady ≡ true → over_now ≡ false → WentAsSaid r now rest left) → Then (closing_line k complete ∷ []) → (j : JournalOf) → j ≡ known_of now
+            → CameTo All here_set (amid k (going r) []) (sight rest over) (sight left over_now) (closed_at k complete) j
+        closed_to Then All join said closed j is =
             let events : j.events ≡ journal (going r) now.since = ap (λ (x : JournalOf). x.events) is ∙ ap (λ (x : Running). x.planned_at ++ now.since) went.same in
-            let whole_way = came_on here_set (amid k (going r) []) (amid k (going r) now.since) (sight rest over before) (sight left over_now text) (sight left over_now after)
+            let whole_way = came_on here_set First Then All join (amid k (going r) []) (amid k (going r) now.since) (sight rest over) (sight left over_now) (sight left over_now)
             (went_here said) (closed_at k complete (journal (going r) now.since)) (λ steady h. h)
-            (came_step here_set (amid k (going r) now.since) (closed_at k complete (journal (going r) now.since)) (sight left over_now text) (sight left over_now after)
-            (closing_line k complete ∷ []) (step whole left) added
+            (came_step here_set Then (amid k (going r) now.since) (closed_at k complete (journal (going r) now.since)) (sight left over_now) (sight left over_now)
+            (closing_line k complete ∷ []) (step whole left) closed
             (λ steady open_still. record {
               answers = [];
               runs = λ ys. runs_once r.cluster r.promotions false _ _ (Some ys) (Some ys) _ (step false (Some ys));
@@ -70,22 +67,27 @@ module _ (whole steady : Bool) (names : Option Cluster) (k : ℕ) (r now : Runni
             record {
               cluster_stays = ap (λ (x : JournalOf). x.cluster) is ∙ ap (λ (x : Running). x.cluster) went.same;
               promotions_stay = ap (λ (x : JournalOf). x.promotions) is ∙ ap (λ (x : Running). x.promotions) went.same;
-              came = subst (λ (es : List Event). HasComeTo here_set (amid k (going r) []) (sight rest over before) (sight left over_now after) (closed_at k complete es)) (sym events) whole_way;
+              came = subst (λ (es : List Event). HasComeTo All here_set (amid k (going r) []) (sight rest over) (sight left over_now) (closed_at k complete es)) (sym events) whole_way;
             }
 
-        closed_short : AddsPrefix (text_of names (closing_line k complete ∷ [])) text after → (j : Journal) → j ≡ left_of now
-            → EndsStopped here_set (amid k (going r) []) (sight rest over before) (sight left over_now after) j
-        closed_short front j is = record {
+        closed_short : (All : List RunLine → Type 0) (StopThen Stopped : List RunLine → RunLine → Type 0)
+            → ((lines more : List RunLine) (at : RunLine) → First lines → StopThen more at → Stopped (lines ++ more) at) → StopThen [] (closing_line k complete)
+            → (j : Journal) → j ≡ left_of now → EndsStopped All here_set (amid k (going r) []) (sight rest over) (sight left over_now) Stopped j
+        closed_short All StopThen Stopped stop stopped j is = record {
           before = amid k (going r) now.since;
           next = closed_at k complete (journal (going r) now.since);
           middle = left;
-          text = text;
           lines = flat_map event_lines now.since;
           call = closing_line k complete ∷ [];
           runs = part_runs r.cluster r.promotions whole k (going r) r.since now.since rest left fresh went.steps;
-          told = part_told here_set k r now fresh names before text told;
-          stopped = step whole left;
-          front = front;
+          step = step whole left;
+          told = record {
+            before = [];
+            at = closing_line k complete;
+            behind = [];
+            parts = refl;
+            stopped = stop (flat_map event_lines now.since) [] (closing_line k complete) (part_told here_set k r now fresh First told) stopped;
+          };
           leaves = is ∙ ap (left_with now.since) went.same
               ∙ ap (with_events r.promotions) (at_closed k complete (journal (going r) now.since));
         }
@@ -102,33 +104,34 @@ module _ (whole steady : Bool) (names : Option Cluster) (k : ℕ) (r now : Runni
           aborts k (going r) now.since xs (subst (λ (t : Transition). HasEnded t now.since) same_going e.ended)
           (subst (λ (t : Transition). has_aborted t now.since ≡ true) same_going (found_so (steps.aborts now.cluster) now.since (Some first) e.first_is))
 
-      module _ (after : Option (List ℕ)) where
-        pub closes_complete : IsComplete now → (steady ≡ true → over_now ≡ false → WentAsSaid r now rest left) → Adds text (text_of names (closing_line k true ∷ [])) after
-            → (j : JournalOf) → j ≡ known_of now
-            → CameTo here_set (amid k (going r) []) (sight rest over before) (sight left over_now after) (closed_at k true) j
-        closes_complete e said added j is = closed_to true (complete_step e) after said added j is
+      module _ (Then All : List RunLine → Type 0) (join : (lines more : List RunLine) → First lines → Then more → All (lines ++ more)) where
+        pub closes_complete : IsComplete now → (steady ≡ true → over_now ≡ false → WentAsSaid r now rest left) → Then (closing_line k true ∷ [])
+            → (j : JournalOf) → j ≡ known_of now → CameTo All here_set (amid k (going r) []) (sight rest over) (sight left over_now) (closed_at k true) j
+        closes_complete e said closed j is = closed_to true (complete_step e) Then All join said closed j is
 
         pub closes_aborted : (first : Event) → IsAborted now first → (steady ≡ true → over_now ≡ false → WentAsSaid r now rest left)
-            → Adds text (text_of names (closing_line k false ∷ [])) after → (j : JournalOf) → j ≡ known_of now
-            → CameTo here_set (amid k (going r) []) (sight rest over before) (sight left over_now after) (closed_at k false) j
-        closes_aborted first e said added j is = closed_to false (aborted_step first e) after said added j is
+            → Then (closing_line k false ∷ []) → (j : JournalOf) → j ≡ known_of now
+            → CameTo All here_set (amid k (going r) []) (sight rest over) (sight left over_now) (closed_at k false) j
+        closes_aborted first e said closed j is = closed_to false (aborted_step first e) Then All join said closed j is
 
-        pub stops_complete : IsComplete now → AddsPrefix (text_of names (closing_line k true ∷ [])) text after → (j : Journal) → j ≡ left_of now
-            → EndsStopped here_set (amid k (going r) []) (sight rest over before) (sight left over_now after) j
-        stops_complete e front j is = closed_short true (complete_step e) after front j is
+      module _ (All : List RunLine → Type 0) (StopThen Stopped : List RunLine → RunLine → Type 0)
+          (stop : (lines more : List RunLine) (at : RunLine) → First lines → StopThen more at → Stopped (lines ++ more) at) where
+        pub stops_complete : IsComplete now → StopThen [] (closing_line k true) → (j : Journal) → j ≡ left_of now
+            → EndsStopped All here_set (amid k (going r) []) (sight rest over) (sight left over_now) Stopped j
+        stops_complete e stopped j is = closed_short true (complete_step e) All StopThen Stopped stop stopped j is
 
-        pub stops_aborted : (first : Event) → IsAborted now first → AddsPrefix (text_of names (closing_line k false ∷ [])) text after
-            → (j : Journal) → j ≡ left_of now → EndsStopped here_set (amid k (going r) []) (sight rest over before) (sight left over_now after) j
-        stops_aborted first e front j is = closed_short false (aborted_step first e) after front j is
+        pub stops_aborted : (first : Event) → IsAborted now first → StopThen [] (closing_line k false) → (j : Journal) → j ≡ left_of now
+            → EndsStopped All here_set (amid k (going r) []) (sight rest over) (sight left over_now) Stopped j
+        stops_aborted first e stopped j is = closed_short false (aborted_step first e) All StopThen Stopped stop stopped j is
 
       -- the source failed
       pub broken : IsWaiting (going now) now.since → (steady ≡ true → WentAsSaid r now rest left) → (steady ≡ true → over ≡ false) → (j : Journal) → j ≡ left_of now
-          → EndsBroken here_set (amid k (going r) []) (sight rest over before) (sight left over_now text) j
+          → EndsBroken First here_set (amid k (going r) []) (sight rest over) (sight left over_now) j
       broken waiting said not_over j is = record {
         last = amid k (going r) now.since;
         lines = flat_map event_lines now.since;
         runs = part_runs r.cluster r.promotions whole k (going r) r.since now.since rest left fresh went.steps;
-        told = part_told here_set k r now fresh names before text told;
+        told = part_told here_set k r now fresh First told;
         asking = subst (λ (t : Transition). IsWaiting t now.since) same_going waiting;
         said = λ always. part_said here_set k r now fresh rest left (said always);
         not_over = not_over;
@@ -136,9 +139,9 @@ module _ (whole steady : Bool) (names : Option Cluster) (k : ℕ) (r now : Runni
       }
 
   -- an answer came that doesn't apply
-  pub cut : (given : Answer) → WentTo whole r now rest left given → AreLinesTold names r now before text → IsCutBy now given → (j : Journal) → j ≡ left_of now
-      → RunEndsCut here_set (amid k (going r) []) (sight rest over before) (sight left over_now text) j given
-  cut given g told e j is =
+  pub cut : (Follows : List RunLine → Type 0) (given : Answer) → WentTo whole r now rest left given → AreLinesTold Follows r now → IsCutBy now given → (j : Journal)
+      → j ≡ left_of now → RunEndsCut Follows here_set (amid k (going r) []) (sight rest over) (sight left over_now) j given
+  cut Follows given g told e j is =
       let same : going now ≡ going r = ap going g.went.same in
       let refused : applies_after r.cluster (journal (going r) now.since) (in_flight_by_number (going r) now.since) (count_from_outside (going r) now.since) given ≡ false
       = subst (λ (t : Transition). applies_after t.cluster (journal t now.since) (in_flight_by_number t now.since) (count_from_outside t now.since) given ≡ false) same e.refused in
@@ -147,7 +150,7 @@ module _ (whole steady : Bool) (names : Option Cluster) (k : ℕ) (r now : Runni
         unread = g.before;
         lines = flat_map event_lines now.since;
         runs = part_runs r.cluster r.promotions whole k (going r) r.since now.since rest g.before fresh g.went.steps;
-        told = part_told here_set k r now fresh names before text told;
+        told = part_told here_set k r now fresh Follows told;
         cut = record {
           asking = subst (λ (t : Transition). IsWaiting t now.since) same e.waiting;
           said = g.said;
@@ -157,20 +160,25 @@ module _ (whole steady : Bool) (names : Option Cluster) (k : ℕ) (r now : Runni
       }
 
   -- the watcher stopped at a step
-  pub stops_amid : IsWatcherCutOff whole names r now rest left before text → (j : Journal) → j ≡ left_of now
-      → EndsStopped here_set (amid k (going r) []) (sight rest over before) (sight left over_now text) j
-  stops_amid b j is =
+  pub stops_amid : (All : List RunLine → Type 0) (Stopped : List RunLine → RunLine → Type 0) → IsWatcherCutOff Stopped whole r now rest left → (j : Journal) → j ≡ left_of now
+      → EndsStopped All here_set (amid k (going r) []) (sight rest over) (sight left over_now) Stopped j
+  stops_amid All Stopped b j is =
       let same : going b.at ≡ going r = ap going b.went.same in
+      let since : b.at.since ≡ b.before = rw fresh at b.happened in
       record {
         before = amid k (going r) b.at.since;
         next = amid k (going r) (b.at.since ++ b.events);
         middle = b.middle;
-        text = b.text;
         lines = flat_map event_lines b.at.since;
         call = flat_map event_lines b.events;
         runs = part_runs r.cluster r.promotions whole k (going r) r.since b.at.since rest b.middle fresh b.went.steps;
-        told = part_told here_set k r b.at fresh names before b.text b.told;
-        stopped = goes k (going r) b.at.since b.events b.middle left (subst (λ (t : Transition). StepsOn t whole b.at.since b.middle b.events left) same b.step);
-        front = b.added;
+        step = goes k (going r) b.at.since b.events b.middle left (subst (λ (t : Transition). StepsOn t whole b.at.since b.middle b.events left) same b.step);
+        told = record {
+          before = [];
+          at = b.line;
+          behind = [];
+          parts = b.line_is;
+          stopped = subst (λ (lines : List RunLine). Stopped lines b.line) (ap (flat_map event_lines) (sym since) ∙ sym (append-nil (flat_map event_lines b.at.since))) b.stopped;
+        };
         leaves = is ∙ ap left_of b.last ∙ ap (left_with (b.at.since ++ b.events)) b.went.same;
       }

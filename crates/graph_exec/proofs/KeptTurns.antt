@@ -43,7 +43,8 @@ use Rattle.graph_exec.proofs.Joined.{said_then}
 use Rattle.graph_exec.proofs.KeptEnds.{kept_answered, kept_unanswered}
 use Rattle.graph_exec.proofs.KeptPlans.{each_more, newly_of_plan, passed_by, within_each}
 use Rattle.graph_exec.proofs.Ready.{carries}
-use Rattle.graph_exec.proofs.Steps.{lines_of_plan, part_runs, part_said, planned_said, planned_step}
+use Rattle.graph_exec.proofs.Steps.{part_runs, part_said, planned_said, planned_step}
+use Rattle.graph_exec.specs.Telling.{plan_lines}
 
 -- the lines of a transition that is kept, by its number and its events
 abbrev pub lines_of_passed : Cluster → ℕ → List Event → Passed → List RunLine
@@ -85,21 +86,21 @@ module _ (s : Setting) (es : List Event) (first rest : Option (List Answer)) (ov
     on = transition_on s.cluster g before
 
     abbrev here_lines : List RunLine
-    here_lines = lines_of_plan s.cluster number placed ++ flat_map event_lines now.since
+    here_lines = plan_lines s.cluster number placed ++ flat_map event_lines now.since
 
     there_by : (left : Option (List Answer)) → Went s.whole (begun_on s before g) now rest left
         → Runs s.cluster s.promotions s.whole (due number before) rest here_lines (amid number on now.since) left
     there_by left went =
         runs_joined s.cluster s.promotions s.whole (due number before) (amid number on []) (amid number on now.since) rest rest left
-        (lines_of_plan s.cluster number placed) (flat_map event_lines now.since)
-        (runs_once s.cluster s.promotions s.whole (due number before) (amid number on []) rest rest (lines_of_plan s.cluster number placed)
+        (plan_lines s.cluster number placed) (flat_map event_lines now.since)
+        (runs_once s.cluster s.promotions s.whole (due number before) (amid number on []) rest rest (plan_lines s.cluster number placed)
         (planned_step s number before placed g out s.whole rest))
         (part_runs s.cluster s.promotions s.whole number on [] now.since rest left refl went.steps)
 
     said_there : (left : Option (List Answer)) → WentAsSaid (begun_on s before g) now rest left
         → IsSaid s (due number before) (amid number on now.since) here_lines rest left
     said_there left w =
-        said_then s (due number before) (amid number on []) (amid number on now.since) (lines_of_plan s.cluster number placed) (flat_map event_lines now.since)
+        said_then s (due number before) (amid number on []) (amid number on now.since) (plan_lines s.cluster number placed) (flat_map event_lines now.since)
         rest rest left (planned_said s number before placed g out rest) (part_said s number (begun_on s before g) now refl rest left w)
 
     -- the transition is kept, with what closes it
@@ -146,7 +147,7 @@ module _ (s : Setting) (es : List Event) (first rest : Option (List Answer)) (ov
 -- the transition that is planned, from its plan to its end, where it is the last that is kept
 module _ (j : JournalOf) (p : Planned) (ready : IsReady j p) (whole steady : Bool) (es : List Event) (first rest : Option (List Answer)) (over : Bool) (passed : List Passed) where
   abbrev here_set : Setting
-  here_set = setting j.cluster j.promotions whole steady None
+  here_set = setting j.cluster j.promotions whole steady
 
   module _ (keeps : KeepsPassed here_set es first rest over passed (due (1 + length passed) j.events)) (now : Running) (from to : ℕ) (begins : from ≡ length j.events)
       (ends : to ≡ length (now.planned_at ++ now.since)) (q : Passed) (how : PassedEnd) (is : q ≡ passed_by p.placed from to how)

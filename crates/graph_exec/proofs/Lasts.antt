@@ -1,6 +1,7 @@
 -- What lasts of sources and watchers, put together.
 use Rattle.std.proofs.Common.{arith, ◌≡◌, ◌≢◌, ◌≤◌, ℕ, Bool, true, Option, List, refl, ◌∙◌}
 use Rattle.cluster_io.specs.Streams.{Rose}
+use Rattle.cluster_types.specs.declared.cluster.Cluster.{Cluster}
 use Rattle.cluster_types.specs.declared.journal.Answer.{Answer}
 use Rattle.graph_exec.specs.declared.transition.ends.WatchedEnd.{WatchedEnd}
 use Rattle.graph_exec.specs.declared.transition.ends.WatchedEnd.TheVariants as how
@@ -15,7 +16,7 @@ use Rattle.graph_exec.specs.Inner.Rounds.{StopsAs}
 use Rattle.graph_exec.specs.Running.{Running}
 use Rattle.graph_exec.specs.Saying.{IsOverBy}
 use Rattle.graph_exec.specs.Transitions.{HasGoneToEnd}
-use Rattle.graph_exec.specs.Watching.{HasHeard, heard_at}
+use Rattle.graph_exec.specs.Watching.{heard_at}
 
 -- a count that rose later rose since
 rose_since : (before middle now : ℕ) → before ≤ middle → Rose middle now → Rose before now
@@ -141,32 +142,20 @@ module _ {A : Type 0} (s : OutcomesOf A) where
     source_done how.SourceFault d a = absurd d
     source_done how.Stopped d a = absurd d
 
--- a watcher goes on or stops
-heard_by : {F P : Type 0} (said : Heard) → (said ≡ heard.Go → F) → (said ≡ heard.Stop → P) → HasHeard F P said
-heard_by heard.Go f s = f refl
-heard_by heard.Stop f s = s refl
-
 module _ {B : Type 0} (v : WatcherOf B) where
-  pub watcher_same : ((w : B) → v.follows w w) → (w : B) → WatcherLasts v w w heard.Go
-  watcher_same itself w = record { names = refl; stops = omega arith; cause = tt; came = itself w }
+  pub watcher_same : (w : B) → WatcherLasts v w w heard.Go
+  watcher_same w = record { same_lines = λ c h. h; stops = omega arith; cause = tt }
 
-  module _ (from_before : (first middle last : B) → v.follows first middle → v.follows middle last → v.follows first last)
-      (stopped_later : (first middle last : B) → v.follows first middle → v.stopped middle last → v.stopped first last) (first middle last : B) where
-    heard_then : (said : Heard) → v.follows first middle → HasHeard (v.follows middle last) (v.stopped middle last) said
-        → HasHeard (v.follows first last) (v.stopped first last) said
-    heard_then heard.Go f h = from_before first middle last f h
-    heard_then heard.Stop f h = stopped_later first middle last f h
-
-    pub watcher_then : (said : Heard) → WatcherLasts v first middle heard.Go → WatcherLasts v middle last said → WatcherLasts v first last said
-    watcher_then said a b =
-        let was = a.stops in
-        let now = b.stops in
-        record { names = b.names ∙ a.names; stops = omega arith; cause = stop_since _ _ _ was said b.cause; came = heard_then said a.came b.came }
+  pub watcher_then : (first middle last : B) (said : Heard) → WatcherLasts v first middle heard.Go → WatcherLasts v middle last said → WatcherLasts v first last said
+  watcher_then first middle last said a b =
+      let was = a.stops in
+      let now = b.stops in
+      record { same_lines = λ c h. b.same_lines c (a.same_lines c h); stops = omega arith; cause = stop_since _ _ _ was said b.cause }
 
   module _ (old new : B) where
-    pub watcher_told : (said : Heard) → v.names new ≡ v.names old → v.stops old ≤ v.stops new → (said ≡ heard.Stop → Rose (v.stops old) (v.stops new))
-        → (said ≡ heard.Go → v.follows old new) → (said ≡ heard.Stop → v.stopped old new) → WatcherLasts v old new said
-    watcher_told said names count cause follows stopped = record { names = names; stops = count; cause = stop_said _ _ said cause; came = heard_by said follows stopped }
+    pub watcher_told : (said : Heard) → ((c : Cluster) → v.is_of old c → v.is_of new c) → v.stops old ≤ v.stops new
+        → (said ≡ heard.Stop → Rose (v.stops old) (v.stops new)) → WatcherLasts v old new said
+    watcher_told said same count cause = record { same_lines = same; stops = count; cause = stop_said _ _ said cause }
 
     -- nothing more was to be done
     pub watcher_done : (end : WatchedEnd) → HasGoneToEnd end → WatcherLasts v old new heard.Go → WatcherLasts v old new (heard_at end)

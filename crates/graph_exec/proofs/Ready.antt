@@ -1,12 +1,12 @@
 -- A transition that is planned, and what comes of it in its run.
 use Rattle.std.proofs.Common.{◌≡◌, ℕ, Bool, true, List, [], ◌++◌, refl, sym, ap, ◌∙◌, subst}
 use Rattle.std.specs.Prelude.{Option, Result}
-use Rattle.cluster_io.specs.Streams.{Adds, AddsPrefix}
 use Rattle.cluster_types.specs.declared.cluster.Cluster.{Cluster}
 use Rattle.cluster_types.specs.declared.journal.Answer.{Answer}
 use Rattle.cluster_types.specs.declared.journal.Event.{Event}
 use Rattle.cluster_types.specs.declared.journal.Journal.{Journal}
 use Rattle.cluster_types.specs.declared.journal.Promotion.{Promotion}
+use Rattle.cluster_types.specs.declared.run.RunLine.{RunLine}
 use Rattle.cluster_types.specs.Graphs.{GraphOf}
 use Rattle.cluster_types.specs.Plans.{CarriesOut}
 use Rattle.cluster_types.specs.Runs.{RunStanding, due, amid, here}
@@ -16,17 +16,16 @@ use Rattle.cluster_types.specs.Valid.{IsValid}
 use Rattle.graph_exec.specs.Logs.{JournalOf}
 use Rattle.graph_exec.specs.Promises.{IsGraphPlanned}
 use Rattle.graph_exec.specs.Running.{Running, Went, going, known_of}
-use Rattle.graph_exec.specs.Telling.{plan_lines, text_of}
+use Rattle.graph_exec.specs.Telling.{StopsAmong, plan_lines}
 use Rattle.graph_exec.specs.Transitions.{Accords}
-use Rattle.graph_exec.proofs.Told.{adds_nothing}
 use Rattle.graph_exec.specs.declared.run.planning.Planned.{Planned}
 use Rattle.graph_exec.specs.declared.run.stop.ReplayStop.{ReplayStop}
-use Rattle.graph_exec.specs.Replays.{Setting, Sight, WritesNamesOf, setting, sight}
+use Rattle.graph_exec.specs.Replays.{Setting, Sight, setting, sight}
 use Rattle.graph_exec.specs.Inner.Turns.{HasComeTo, CameTo, RunEndsAs, EndsStopped, HasPlannedGraph, IsReady, fresh_on, left_of}
 use Rattle.graph_exec.proofs.Joined.{came_on, ends_on}
 use Rattle.graph_exec.proofs.Named.{reasons_named}
 use Rattle.graph_exec.proofs.Rests.{accords_first, accords_last, stays_there}
-use Rattle.graph_exec.proofs.Steps.{came_planned, lines_of_plan, plan_text, planned_step}
+use Rattle.graph_exec.proofs.Steps.{came_planned, planned_step}
 
 pub is_ready : (j : JournalOf) (p : Planned) (g : GraphOf) → IsValid j.cluster → IsAtRest j.events → p.executor ≡ fresh_on j g
     → CarriesOut j.cluster j.events j.promotions p.placed g → IsReady j p
@@ -71,54 +70,55 @@ module _ (j : JournalOf) (p : Planned) (ready : IsReady j p) where
   same_going : (t : Transition) → t ≡ going p.executor → t ≡ going (fresh_on j p.executor.graph)
   same_going t e = e ∙ ap going ready.fresh
 
-  module _ (whole steady : Bool) (names : Option Cluster) (k : ℕ) (rest : Option (List Answer)) (over : Bool) (before after : Option (List ℕ)) where
+  module _ (whole steady : Bool) (k : ℕ) (rest : Option (List Answer)) (over : Bool) (Follows : List RunLine → Type 0) where
     abbrev here_set : Setting
-    here_set = setting j.cluster j.promotions whole steady names
+    here_set = setting j.cluster j.promotions whole steady
 
-    module _ (fits : WritesNamesOf j.cluster names) where
-      -- the watcher is told of the plan
-      pub came_begun : Adds before (text_of names (plan_lines names k p.placed)) after
-          → HasComeTo here_set (due k j.events) (sight rest over before) (sight rest over after) (amid k (going p.executor) [])
-      came_begun told =
-          subst (λ (t : Transition). HasComeTo here_set (due k j.events) (sight rest over before) (sight rest over after) (amid k t [])) (sym (same_going _ refl))
-          (came_planned here_set k j.events p.placed p.executor.graph carries rest over before after fits told)
+    -- the watcher is told of the plan
+    pub came_begun : Follows (plan_lines j.cluster k p.placed)
+        → HasComeTo Follows here_set (due k j.events) (sight rest over) (sight rest over) (amid k (going p.executor) [])
+    came_begun told =
+        subst (λ (t : Transition). HasComeTo Follows here_set (due k j.events) (sight rest over) (sight rest over) (amid k t [])) (sym (same_going _ refl))
+        (came_planned here_set k j.events p.placed p.executor.graph carries Follows rest over told)
 
-      -- and stops
-      pub stops_begun : AddsPrefix (text_of names (plan_lines names k p.placed)) before after → (journal : Journal)
-          → journal ≡ left_of p.executor
-          → EndsStopped here_set (due k j.events) (sight rest over before) (sight rest over after) journal
-      stops_begun front journal is = record {
-        before = due k j.events;
-        next = amid k (going (fresh_on j p.executor.graph)) [];
-        middle = rest;
-        text = before;
-        lines = [];
-        call = lines_of_plan j.cluster k p.placed;
-        runs = here (due k j.events) rest;
-        told = adds_nothing names before;
-        stopped = planned_step here_set k j.events p.placed p.executor.graph carries whole rest;
-        front = subst (λ (bytes : List ℕ). AddsPrefix bytes before after) (plan_text j.cluster names k p.placed fits) front;
-        leaves = is ∙ ap left_of ready.fresh;
-      }
+    -- and stops
+    pub stops_begun : (Stopped : List RunLine → RunLine → Type 0) → StopsAmong Stopped (plan_lines j.cluster k p.placed) → (journal : Journal)
+        → journal ≡ left_of p.executor
+        → EndsStopped Follows here_set (due k j.events) (sight rest over) (sight rest over) Stopped journal
+    stops_begun Stopped told journal is = record {
+      before = due k j.events;
+      next = amid k (going (fresh_on j p.executor.graph)) [];
+      middle = rest;
+      lines = [];
+      call = plan_lines j.cluster k p.placed;
+      runs = here (due k j.events) rest;
+      step = planned_step here_set k j.events p.placed p.executor.graph carries whole rest;
+      told = record { before = told.before; at = told.at; behind = told.behind; parts = told.parts; stopped = told.stopped };
+      leaves = is ∙ ap left_of ready.fresh;
+    }
 
 -- a part of a run, and then the next, where the journal is kept with what it tells
-module _ (c : Cluster) (promotions : List Promotion) (whole steady : Bool) (names : Option Cluster) (from : RunStanding) (old now : Sight) where
-  module _ (at : RunStanding) (one : HasComeTo (setting c promotions whole steady names) from old now at) (d : Cluster) (scores : List Promotion)
+module _ (First Then All : List RunLine → Type 0) (join : (lines more : List RunLine) → First lines → Then more → All (lines ++ more))
+    (c : Cluster) (promotions : List Promotion) (whole steady : Bool) (from : RunStanding) (old now : Sight) where
+  module _ (at : RunStanding) (one : HasComeTo First (setting c promotions whole steady) from old now at) (d : Cluster) (scores : List Promotion)
       (same : d ≡ c) (like : scores ≡ promotions) (new : Sight) where
-    same_set : setting d scores whole steady names ≡ setting c promotions whole steady names
-    same_set = ap (λ (x : Cluster). setting x scores whole steady names) same ∙ ap (λ (x : List Promotion). setting c x whole steady names) like
+    same_set : setting d scores whole steady ≡ setting c promotions whole steady
+    same_set = ap (λ (x : Cluster). setting x scores whole steady) same ∙ ap (λ (x : List Promotion). setting c x whole steady) like
 
-    pub ends_behind : (end : Result Journal ReplayStop) → (steady ≡ true → old.over ≡ true → now.over ≡ true) → RunEndsAs (setting d scores whole steady names) at now new end
-        → RunEndsAs (setting c promotions whole steady names) from old new end
-    ends_behind end stays w =
-        ends_on (setting c promotions whole steady names) from at old now new one end stays (subst (λ (s : Setting). RunEndsAs s at now new end) same_set w)
+    pub ends_behind : (StopThen StopAll : List RunLine → RunLine → Type 0)
+        → ((lines more : List RunLine) (at : RunLine) → First lines → StopThen more at → StopAll (lines ++ more) at)
+        → (end : Result Journal ReplayStop) → (steady ≡ true → old.over ≡ true → now.over ≡ true) → RunEndsAs Then (setting d scores whole steady) at now new StopThen end
+        → RunEndsAs All (setting c promotions whole steady) from old new StopAll end
+    ends_behind StopThen StopAll stop_behind end stays w =
+        ends_on (setting c promotions whole steady) First Then All join from at old now new one StopThen StopAll stop_behind end stays
+        (subst (λ (s : Setting). RunEndsAs Then s at now new StopThen end) same_set w)
 
     pub comes_behind : (then_at : List Event → RunStanding) (j : JournalOf) → (steady ≡ true → now.over ≡ true → new.over ≡ true)
-        → CameTo (setting d scores whole steady names) at now new then_at j → CameTo (setting c promotions whole steady names) from old new then_at j
+        → CameTo Then (setting d scores whole steady) at now new then_at j → CameTo All (setting c promotions whole steady) from old new then_at j
     comes_behind then_at j stays w =
-        let there = subst (λ (s : Setting). CameTo s at now new then_at j) same_set w in
+        let there = subst (λ (s : Setting). CameTo Then s at now new then_at j) same_set w in
         record {
           cluster_stays = there.cluster_stays;
           promotions_stay = there.promotions_stay;
-          came = came_on (setting c promotions whole steady names) from at old now new one (then_at j.events) stays there.came;
+          came = came_on (setting c promotions whole steady) First Then All join from at old now new one (then_at j.events) stays there.came;
         }

@@ -1,6 +1,6 @@
 -- What a watcher has been shown, step by step.
-use Rattle.std.proofs.Common.{◌≡◌, ◌++◌, ◌∷◌, [], Bool, Option, List, append-nil, append_assoc, sym, ap, subst}
-use Rattle.std.specs.Prelude.{Result}
+use Rattle.std.proofs.Common.{◌≡◌, ◌++◌, ◌∷◌, [], ℕ, Bool, true, Option, Some, None, List, append-nil, append_assoc, refl, sym, ap, subst, ◌∙◌}
+use Rattle.std.specs.Prelude.{Result, Ok, Err}
 use Rattle.std.specs.List.{flat_map}
 use Rattle.cluster_types.specs.declared.cluster.Cluster.{Cluster}
 use Rattle.cluster_types.specs.declared.journal.Action.{Action}
@@ -9,76 +9,170 @@ use Rattle.cluster_types.specs.declared.journal.Event.{Event}
 use Rattle.cluster_types.specs.declared.journal.Journal.{Journal}
 use Rattle.cluster_types.specs.declared.journal.Promotion.{Promotion}
 use Rattle.cluster_types.specs.declared.run.RunLine.TheVariants as line
+use Rattle.cluster_types.specs.Answering.{added_by, applies_after}
+use Rattle.cluster_types.specs.Journals.{AreInFlightByNumber, in_flight_by_begin}
 use Rattle.cluster_types.specs.Plans.{IsPlan}
-use Rattle.cluster_types.specs.Steps.{answer_events, resting}
 use Rattle.cluster_types.specs.Texts.{event_lines}
+use Rattle.cluster_types.specs.Steps.{answer_events, count_from_outside, in_flight_by_number, resting}
 use Rattle.graph_exec.specs.declared.run.planning.Planned.{Planned}
 use Rattle.graph_exec.specs.declared.run.run_ending.RunEnd.{RunEnd}
 use Rattle.graph_exec.specs.declared.run.run_ending.RunEnd.TheVariants as run
 use Rattle.graph_exec.specs.declared.run.stop.ReplayStop.{ReplayStop}
+use Rattle.graph_exec.specs.declared.transition.watcher.Heard.{Heard}
+use Rattle.graph_exec.specs.declared.transition.watcher.Heard.TheVariants as heard
 use Rattle.graph_exec.specs.Inner.Keeping.{IsUnanswered, watched_end}
-use Rattle.graph_exec.specs.Logs.{JournalOf}
-use Rattle.graph_exec.specs.Replays.{IsShownJournal, OfJournal}
-use Rattle.graph_exec.specs.Resting.{TookResting}
-use Rattle.graph_exec.specs.Running.{Running, later}
+use Rattle.graph_exec.specs.declared.transition.ends.WatchedEnd.{WatchedEnd}
+use Rattle.graph_exec.specs.declared.transition.ends.WatchedEnd.TheVariants as how
+use Rattle.graph_exec.specs.Inner.Rounds.{Answered, StopsAs}
 use Rattle.graph_exec.specs.Inner.Turns.{IsReady}
-use Rattle.graph_exec.specs.Watching.{IsShownAll}
-use Rattle.graph_exec.proofs.Ready.{carries, same_cluster}
+use Rattle.graph_exec.specs.Logs.{JournalOf}
+use Rattle.graph_exec.specs.Replays.{IsShownEnd, IsShownTo}
+use Rattle.graph_exec.specs.Resting.{TookResting}
+use Rattle.graph_exec.specs.Running.{Running, IsUnderWay, going, later}
+use Rattle.graph_exec.specs.Telling.{RunView, view_amid, view_between, view_later}
+use Rattle.graph_exec.specs.Transitions.{HasGoneToEnd}
+use Rattle.graph_exec.specs.Watching.{IsShownAll, heard_at, view_of}
+use Rattle.graph_exec.proofs.Ready.{carries}
+use Rattle.graph_exec.proofs.Rests.{none_in_flight}
+use Rattle.run_safety.proofs.ByNumber.{by_number}
 use Rattle.run_safety.proofs.Printed.{answer_line}
 
-module _ (shown now : Cluster → List Event → Type 0) where
-  pub shown_later : (old new : Running) (events : List Event) → new ≡ later old events
-      → (shown old.cluster (old.planned_at ++ old.since) → now old.cluster ((old.planned_at ++ old.since) ++ events)) → IsShownAll shown old → IsShownAll now new
+-- an answer that applies is shown with what it adds
+abbrev pub IsShownAnswers : (RunView → Type 0) → (RunView → Type 0) → Answer → Type 0
+IsShownAnswers Shown Now given =
+    (v : RunView) (flight : List (ℕ × Action)) (taken : ℕ) → AreInFlightByNumber v.events flight → applies_after v.cluster v.events flight taken given ≡ true
+    → flat_map event_lines (added_by v.cluster v.events flight given) ≡ line.Taken given ∷ [] → Shown v
+    → Now (view_later v (added_by v.cluster v.events flight given))
+
+module _ (Shown Now : RunView → Type 0) where
+  pub shown_later : (old new : Running) (events : List Event) → new ≡ later old events → (Shown (view_of old) → Now (view_later (view_of old) events)) → IsShownAll Shown old
+      → IsShownAll Now new
   shown_later old new events is on h =
-      rw is (subst (λ (es : List Event). now old.cluster es) (append_assoc old.planned_at old.since events) (on h))
+      rw is (record {
+        idle = h.idle;
+        shown_now = subst (λ (es : List Event). Now (view_amid old.cluster old.promotions old.graph.actions es)) (append_assoc old.planned_at old.since events) (on h.shown_now);
+      })
 
-  -- a transition is carried out
-  pub shown_carried : (r last : Running) → r.since ≡ [] → last.cluster ≡ r.cluster → (IsShownAll shown r → IsShownAll now last) → shown r.cluster r.planned_at
-      → (es : List Event) → es ≡ last.planned_at ++ last.since → now r.cluster es
-  shown_carried r last fresh same on h es is =
-      subst (λ (c : Cluster). now c es) same
-      (subst (λ (x : List Event). now last.cluster x) (sym is)
-      (on (subst (λ (since : List Event). shown r.cluster (r.planned_at ++ since)) (sym fresh)
-      (subst (λ (x : List Event). shown r.cluster x) (sym (append-nil r.planned_at)) h))))
+  pub shown_taken : (whole : Bool) (old new : Running) (rest left : Option (List Answer)) (given : Answer) → Answered whole old new rest left given → IsUnderWay old
+      → IsShownAnswers Shown Now given → IsShownAll Shown old → IsShownAll Now new
+  shown_taken whole old new rest left given a u on h =
+      shown_later old new (answer_events (going old) old.since given) (a.goes_on ∙ ap (later old) a.adds)
+      (on (view_of old) (in_flight_by_number (going old) old.since) (count_from_outside (going old) old.since) (by_number (going old) true None None old.since h.idle u.steps) a.applies
+      (ap (flat_map event_lines) (sym a.adds) ∙ a.lines)) h
 
--- an answer is taken while nothing is to be done, or none is that applies
-pub shown_answered : (shown now : Cluster → List Event → Type 0) (j next : JournalOf) (given : Answer) → TookResting j next given
-    → ((events : List Event) → flat_map event_lines events ≡ line.Taken given ∷ [] → shown j.cluster j.events → now j.cluster (j.events ++ events))
-    → shown j.cluster j.events → now j.cluster next.events
-shown_answered shown now j next given took on h =
-    subst (λ (es : List Event). now j.cluster es) (sym (ap (λ (x : JournalOf). x.events) took.goes_on))
-    (on (answer_events (resting j.cluster j.events) [] given) (answer_line (resting j.cluster j.events) [] given took.applies) h)
+  -- an answer is taken while nothing is to be done
+  pub shown_answered : (j next : JournalOf) (given : Answer) → TookResting j next given → in_flight_by_begin j.events ≡ [] → IsShownAnswers Shown Now given
+      → Shown (view_between j.cluster j.promotions j.events) → Now (view_between j.cluster j.promotions next.events)
+  shown_answered j next given took idle on h =
+      let here : applies_after j.cluster j.events [] 0 given ≡ true
+      = subst (λ (x : List Event). applies_after j.cluster x [] 0 given ≡ true) (append-nil j.events) took.applies in
+      let same : next.events ≡ j.events ++ added_by j.cluster j.events [] given
+      = ap (λ (x : JournalOf). x.events) took.goes_on ∙ ap (λ (x : List Event). j.events ++ added_by j.cluster x [] given) (append-nil j.events) in
+      let lines : flat_map event_lines (added_by j.cluster j.events [] given) ≡ line.Taken given ∷ []
+      = subst (λ (x : List Event). flat_map event_lines (added_by j.cluster x [] given) ≡ line.Taken given ∷ []) (append-nil j.events)
+      (answer_line (resting j.cluster j.events) [] given took.applies) in
+      subst (λ (x : List Event). Now (view_between j.cluster j.promotions x)) (sym same)
+      (on (view_between j.cluster j.promotions j.events) [] 0 (none_in_flight j.events [] idle refl) here lines h)
 
-pub shown_unanswered : (shown : Cluster → List Event → Type 0) (j : JournalOf) (whole : Bool) (rest left : Option (List Answer)) (over : Bool) (end : RunEnd)
-    → IsUnanswered whole j rest left over end → shown j.cluster j.events → OfJournal (IsShownJournal shown j.cluster) (watched_end end)
-shown_unanswered shown j whole rest left over (run.Whole journal) w h = subst (λ (x : Journal). shown j.cluster x.events) (sym w.leaves) h
-shown_unanswered shown j whole rest left over (run.Unexpected journal given) w h =
-    subst (λ (x : Journal). shown j.cluster x.events) (sym w.leaves) (subst (λ (x : JournalOf). shown j.cluster x.events) (sym w.refused.same) h)
-shown_unanswered shown j whole rest left over (run.SourceFault journal) w h = subst (λ (x : Journal). shown j.cluster x.events) (sym w.leaves) h
-shown_unanswered shown j whole rest left over run.NoMemory w h = tt
+-- where no answer was taken, or nothing more was to be done, the watcher went on
+module _ (Shown : Heard → Running → Type 0) where
+  pub same_shown : (whole : Bool) (old new : Running) (rest left : Option (List Answer)) (end : WatchedEnd) → StopsAs whole old new rest left end → Shown heard.Go new
+      → Shown (heard_at end) new
+  same_shown whole old new rest left how.Complete s h = absurd s
+  same_shown whole old new rest left (how.Aborted event) s h = absurd s
+  same_shown whole old new rest left (how.Unexpected given) s h = h
+  same_shown whole old new rest left how.SourceFault s h = h
+  same_shown whole old new rest left how.Stopped s h = absurd s
+
+  pub done_shown : (new : Running) (end : WatchedEnd) → HasGoneToEnd end → Shown heard.Go new → Shown (heard_at end) new
+  done_shown new how.Complete d h = h
+  done_shown new (how.Aborted event) d h = h
+  done_shown new (how.Unexpected given) d h = absurd d
+  done_shown new how.SourceFault d h = absurd d
+  done_shown new how.Stopped d h = absurd d
+
+-- nothing of a transition has happened yet
+pub shown_first : (Shown : RunView → Type 0) (r : Running) → in_flight_by_begin r.planned_at ≡ [] → r.since ≡ []
+    → Shown (view_amid r.cluster r.promotions r.graph.actions r.planned_at) → IsShownAll Shown r
+shown_first Shown r idle fresh h = record {
+  idle = idle;
+  shown_now = subst (λ (since : List Event). Shown (view_amid r.cluster r.promotions r.graph.actions (r.planned_at ++ since))) (sym fresh)
+      (subst (λ (es : List Event). Shown (view_amid r.cluster r.promotions r.graph.actions es)) (sym (append-nil r.planned_at)) h);
+}
+
+-- a transition has gone on, and is closed or left
+module _ (r last : Running) (same : last ≡ record { cluster = r.cluster; graph = r.graph; planned_at = r.planned_at; since = last.since; promotions = r.promotions })
+    (es : List Event) (is : es ≡ last.planned_at ++ last.since) where
+  pub shown_closed : (Now : RunView → Type 0) → Now (view_between last.cluster last.promotions (last.planned_at ++ last.since)) → Now (view_between r.cluster r.promotions es)
+  shown_closed Now h =
+      subst (λ (x : Running). Now (view_between x.cluster x.promotions es)) same (subst (λ (x : List Event). Now (view_between last.cluster last.promotions x)) (sym is) h)
+
+  pub shown_left : (Now : Heard → RunView → Type 0) (said : Heard) → Now said (view_of last) → IsShownTo Now r.cluster r.promotions said es
+  shown_left Now said h = record {
+    plan = Some last.graph.actions;
+    shown_last = subst (λ (x : Running). Now said (record { cluster = x.cluster; promotions = x.promotions; plan = Some last.graph.actions; events = es })) same
+        (subst (λ (x : List Event). Now said (view_amid last.cluster last.promotions last.graph.actions x)) (sym is) h);
+  }
+
+  pub shown_closing : (Now : Heard → RunView → Type 0) (said : Heard) → Now said (view_between last.cluster last.promotions (last.planned_at ++ last.since))
+      → IsShownTo Now r.cluster r.promotions said es
+  shown_closing Now said h = record { plan = None; shown_last = shown_closed (Now said) h }
+
+-- no answer came that applies
+pub shown_unanswered : (Shown : Heard → RunView → Type 0) (j : JournalOf) (whole : Bool) (rest left : Option (List Answer)) (over : Bool) (end : RunEnd)
+    → IsUnanswered whole j rest left over end → Shown heard.Go (view_between j.cluster j.promotions j.events) → IsShownEnd Shown j.cluster j.promotions (watched_end end)
+shown_unanswered Shown j whole rest left over (run.Whole journal) w h =
+    subst (λ (x : Journal). Shown heard.Go (view_between j.cluster j.promotions x.events)) (sym w.leaves) h
+shown_unanswered Shown j whole rest left over (run.Unexpected journal given) w h = record {
+  plan = None;
+  shown_last = subst (λ (x : Journal). Shown heard.Go (view_between j.cluster j.promotions x.events)) (sym w.leaves)
+      (subst (λ (x : JournalOf). Shown heard.Go (view_between j.cluster j.promotions x.events)) (sym w.refused.same) h);
+}
+shown_unanswered Shown j whole rest left over (run.SourceFault journal) w h =
+    record { plan = None; shown_last = subst (λ (x : Journal). Shown heard.Go (view_between j.cluster j.promotions x.events)) (sym w.leaves) h }
+shown_unanswered Shown j whole rest left over run.NoMemory w h = tt
 
 -- a plan is shown, and what comes of its transition
-module _ (shown planned : Cluster → List Event → Type 0) (j : JournalOf) (p : Planned) (ready : IsReady j p)
-    (on : (promotions : List Promotion) (actions : List Action) → IsPlan j.cluster j.events promotions p.placed actions → shown j.cluster j.events → planned j.cluster j.events) where
-  pub shown_planned : shown j.cluster j.events → planned p.executor.cluster p.executor.planned_at
-  shown_planned h =
-      subst (λ (r : Running). planned r.cluster r.planned_at) (sym ready.fresh) (on j.promotions p.executor.graph.actions (carries j p ready).plan h)
+module _ (j : JournalOf) (p : Planned) (ready : IsReady j p) where
+  pub shown_planned : (Shown Now : RunView → Type 0)
+      → ((c : Cluster) (promotions : List Promotion) (es : List Event) (actions : List Action) → IsPlan c es promotions p.placed actions → Shown (view_between c promotions es)
+      → Now (view_amid c promotions actions es))
+      → Shown (view_between j.cluster j.promotions j.events)
+      → Now (view_amid p.executor.cluster p.executor.promotions p.executor.graph.actions p.executor.planned_at)
+  shown_planned Shown Now on h =
+      subst (λ (r : Running). Now (view_amid r.cluster r.promotions r.graph.actions r.planned_at)) (sym ready.fresh)
+      (on j.cluster j.promotions j.events p.executor.graph.actions (carries j p ready).plan h)
 
-  pub shown_there : (now : Cluster → List Event → Type 0) (es : List Event) → (planned p.executor.cluster p.executor.planned_at → now p.executor.cluster es)
-      → shown j.cluster j.events → now j.cluster es
-  shown_there now es carried h = subst (λ (c : Cluster). now c es) (same_cluster j p ready) (carried (shown_planned h))
+  pub shown_there : (Now : RunView → Type 0) (es : List Event) → Now (view_between p.executor.cluster p.executor.promotions es) → Now (view_between j.cluster j.promotions es)
+  shown_there Now es h = subst (λ (r : Running). Now (view_between r.cluster r.promotions es)) ready.fresh h
 
-  pub shown_end : (now : Cluster → List Event → Type 0) (end : Result Journal ReplayStop)
-      → (planned p.executor.cluster p.executor.planned_at → OfJournal (IsShownJournal now p.executor.cluster) end) → shown j.cluster j.events
-      → OfJournal (IsShownJournal now j.cluster) end
-  shown_end now end carried h =
-      subst (λ (c : Cluster). OfJournal (IsShownJournal now c) end) (same_cluster j p ready) (carried (shown_planned h))
+  pub shown_end : (Now : Heard → RunView → Type 0) (end : Result Journal ReplayStop) → IsShownEnd Now p.executor.cluster p.executor.promotions end
+      → IsShownEnd Now j.cluster j.promotions end
+  shown_end Now end h = subst (λ (r : Running). IsShownEnd Now r.cluster r.promotions end) ready.fresh h
 
--- the same, by the name of another cluster that is this one
-pub shown_behind : (shown now : Cluster → List Event → Type 0) (c d : Cluster) (es later : List Event) → d ≡ c → (shown d es → now d later) → shown c es → now c later
-shown_behind shown now c d es later same on h = subst (λ (x : Cluster). now x later) same (on (subst (λ (x : Cluster). shown x es) (sym same) h))
+  -- the watcher stops at the plan
+  pub shown_stopped : (Now : Heard → RunView → Type 0) (said : Heard)
+      → Now said (view_amid p.executor.cluster p.executor.promotions p.executor.graph.actions p.executor.planned_at)
+      → (es : List Event) → es ≡ p.executor.planned_at ++ p.executor.since → IsShownTo Now j.cluster j.promotions said es
+  shown_stopped Now said h es is = record {
+    plan = Some p.executor.graph.actions;
+    shown_last =
+        let events : es ≡ j.events = is ∙ (ap (λ (r : Running). r.planned_at ++ r.since) ready.fresh ∙ append-nil j.events) in
+        subst (λ (x : List Event). Now said (view_amid j.cluster j.promotions p.executor.graph.actions x)) (sym events)
+        (subst (λ (r : Running). Now said (view_amid r.cluster r.promotions p.executor.graph.actions r.planned_at)) ready.fresh h);
+  }
 
-pub end_behind : (shown now : Cluster → List Event → Type 0) (c d : Cluster) (es : List Event) (end : Result Journal ReplayStop) → d ≡ c
-    → (shown d es → OfJournal (IsShownJournal now d) end) → shown c es → OfJournal (IsShownJournal now c) end
-end_behind shown now c d es end same on h =
-    subst (λ (x : Cluster). OfJournal (IsShownJournal now x) end) same (on (subst (λ (x : Cluster). shown x es) (sym same) h))
+-- the same, by the names of another cluster and other scores that are these
+module _ (c d : Cluster) (promotions scores : List Promotion) (same : d ≡ c) (like : scores ≡ promotions) where
+  same_view : (es : List Event) → view_between d scores es ≡ view_between c promotions es
+  same_view es = ap (λ (x : Cluster). view_between x scores es) same ∙ ap (λ (x : List Promotion). view_between c x es) like
+
+  pub shown_behind : (Shown Now : RunView → Type 0) (es later : List Event) → (Shown (view_between d scores es) → Now (view_between d scores later))
+      → Shown (view_between c promotions es) → Now (view_between c promotions later)
+  shown_behind Shown Now es later on h = subst Now (same_view later) (on (subst Shown (sym (same_view es)) h))
+
+  pub end_behind : (Shown : RunView → Type 0) (Now : Heard → RunView → Type 0) (es : List Event) (end : Result Journal ReplayStop)
+      → (Shown (view_between d scores es) → IsShownEnd Now d scores end) → Shown (view_between c promotions es) → IsShownEnd Now c promotions end
+  end_behind Shown Now es end on h =
+      subst (λ (x : List Promotion). IsShownEnd Now c x end) like
+      (subst (λ (x : Cluster). IsShownEnd Now x scores end) same (on (subst Shown (sym (same_view es)) h)))

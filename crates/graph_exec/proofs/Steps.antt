@@ -2,7 +2,6 @@
 use Rattle.std.proofs.Common.{◌≡◌, ℕ, Bool, true, false, List, [], ◌∷◌, ◌++◌, refl, sym, ap, subst}
 use Rattle.std.specs.Prelude.{Option, Some, None}
 use Rattle.std.specs.List.{flat_map}
-use Rattle.cluster_io.specs.Streams.{Adds}
 use Rattle.cluster_types.specs.declared.cluster.Cluster.{Cluster}
 use Rattle.cluster_types.specs.declared.journal.Answer.{Answer}
 use Rattle.cluster_types.specs.declared.journal.Event.{Event}
@@ -18,47 +17,37 @@ use Rattle.cluster_types.specs.Tables.{targets_of}
 use Rattle.cluster_types.specs.Texts.{event_lines, target_lines}
 use Rattle.cluster_types.proofs.SourceLaws.{carries-out}
 use Rattle.graph_exec.specs.Running.{Running, Went, going}
-use Rattle.graph_exec.specs.Telling.{plan_lines, text_of}
+use Rattle.graph_exec.specs.Telling.{plan_lines}
 use Rattle.graph_exec.specs.Transitions.{WentAsSaid}
 use Rattle.graph_exec.specs.Watching.{AreLinesTold}
 use Rattle.graph_exec.proofs.Said.{goes_more, taken_none}
 use Rattle.run_safety.proofs.OneTransition.{goes_runs}
 use Rattle.run_safety.proofs.SoFar.{runs_once}
-use Rattle.graph_exec.specs.Replays.{Setting, WritesNamesOf, sight}
+use Rattle.graph_exec.specs.Replays.{Setting, sight}
 use Rattle.graph_exec.specs.Inner.Turns.{HasComeTo, IsSaid}
 use Rattle.graph_exec.proofs.Joined.{came_step}
-
--- the lines of a plan, by the names of the cluster
-abbrev pub lines_of_plan : Cluster → ℕ → Placed → List RunLine
-lines_of_plan c k placed = line.Transition k ∷ target_lines c placed.pins (targets_of placed.table) placed.none
-
-pub plan_text : (c : Cluster) (names : Option Cluster) (k : ℕ) (placed : Placed) → WritesNamesOf c names
-    → text_of names (plan_lines names k placed) ≡ text_of names (lines_of_plan c k placed)
-plan_text c None k placed fits = refl
-plan_text c (Some d) k placed fits = ap (λ (x : Cluster). text_of (Some d) (lines_of_plan x k placed)) fits
 
 module _ (s : Setting) (k : ℕ) (es : List Event) (placed : Placed) (g : GraphOf) (out : CarriesOut s.cluster es s.promotions placed g) where
   -- the transition that is due is planned
   pub planned_step : (whole : Bool) (rest : Option (List Answer))
-      → RunsOn s.cluster s.promotions whole (due k es) rest (lines_of_plan s.cluster k placed) (amid k (transition_on s.cluster g es) []) rest
+      → RunsOn s.cluster s.promotions whole (due k es) rest (plan_lines s.cluster k placed) (amid k (transition_on s.cluster g es) []) rest
   planned_step whole rest =
-      subst (λ (t : Transition). RunsOn s.cluster s.promotions whole (due k es) rest (lines_of_plan s.cluster k placed) (amid k t []) rest)
+      subst (λ (t : Transition). RunsOn s.cluster s.promotions whole (due k es) rest (plan_lines s.cluster k placed) (amid k t []) rest)
       (sym (carries-out s.cluster es s.promotions placed g out)) (plans k es rest placed g.actions out.plan)
 
   pub planned_said : (rest : Option (List Answer))
-      → IsSaid s (due k es) (amid k (transition_on s.cluster g es) []) (lines_of_plan s.cluster k placed) rest rest
+      → IsSaid s (due k es) (amid k (transition_on s.cluster g es) []) (plan_lines s.cluster k placed) rest rest
   planned_said rest = record {
     answers = [];
     runs = λ ys. runs_once s.cluster s.promotions false _ _ (Some ys) (Some ys) _ (planned_step false (Some ys));
     taken = taken_none rest;
   }
 
-  pub came_planned : (rest : Option (List Answer)) (over : Bool) (before after : Option (List ℕ)) → WritesNamesOf s.cluster s.names
-      → Adds before (text_of s.names (plan_lines s.names k placed)) after
-      → HasComeTo s (due k es) (sight rest over before) (sight rest over after) (amid k (transition_on s.cluster g es) [])
-  came_planned rest over before after fits told =
-      came_step s (due k es) (amid k (transition_on s.cluster g es) []) (sight rest over before) (sight rest over after) (lines_of_plan s.cluster k placed)
-      (planned_step s.whole rest) (subst (λ (bytes : List ℕ). Adds before bytes after) (plan_text s.cluster s.names k placed fits) told) (λ steady open_still. planned_said rest)
+  pub came_planned : (Follows : List RunLine → Type 0) (rest : Option (List Answer)) (over : Bool) → Follows (plan_lines s.cluster k placed)
+      → HasComeTo Follows s (due k es) (sight rest over) (sight rest over) (amid k (transition_on s.cluster g es) [])
+  came_planned Follows rest over told =
+      came_step s Follows (due k es) (amid k (transition_on s.cluster g es) []) (sight rest over) (sight rest over) (plan_lines s.cluster k placed)
+      (planned_step s.whole rest) told (λ steady open_still. planned_said rest)
 
 -- the steps of a transition of which nothing had happened, as steps of a run
 pub part_runs : (c : Cluster) (promotions : List Promotion) (whole : Bool) (k : ℕ) (t : Transition) (since later : List Event) (rest left : Option (List Answer))
@@ -77,19 +66,18 @@ module _ (s : Setting) (k : ℕ) (r now : Running) (fresh : r.since ≡ []) wher
     taken = w.taken;
   }
 
-  pub part_told : (names : Option Cluster) (before after : Option (List ℕ)) → AreLinesTold names r now before after
-      → Adds before (text_of names (flat_map event_lines now.since)) after
-  part_told names before after t =
+  pub part_told : (Follows : List RunLine → Type 0) → AreLinesTold Follows r now → Follows (flat_map event_lines now.since)
+  part_told Follows t =
       let happened : now.since ≡ t.events = rw fresh at t.happened in
-      subst (λ (es : List Event). Adds before (text_of names (flat_map event_lines es)) after) (sym happened) t.added
+      subst (λ (es : List Event). Follows (flat_map event_lines es)) (sym happened) t.told
 
   -- the transition went on
-  pub came_carried : (rest left : Option (List Answer)) (over over_now : Bool) (before after : Option (List ℕ)) → Went s.whole r now rest left
-      → AreLinesTold s.names r now before after → (s.steady ≡ true → over_now ≡ false → WentAsSaid r now rest left)
-      → HasComeTo s (amid k (going r) []) (sight rest over before) (sight left over_now after) (amid k (going r) now.since)
-  came_carried rest left over over_now before after went told said = record {
+  pub came_carried : (Follows : List RunLine → Type 0) (rest left : Option (List Answer)) (over over_now : Bool) → Went s.whole r now rest left
+      → AreLinesTold Follows r now → (s.steady ≡ true → over_now ≡ false → WentAsSaid r now rest left)
+      → HasComeTo Follows s (amid k (going r) []) (sight rest over) (sight left over_now) (amid k (going r) now.since)
+  came_carried Follows rest left over over_now went told said = record {
     lines = flat_map event_lines now.since;
     runs = part_runs s.cluster s.promotions s.whole k (going r) r.since now.since rest left fresh went.steps;
-    told = part_told s.names before after told;
+    told = part_told Follows told;
     said = λ steady open_still. part_said rest left (said steady open_still);
   }

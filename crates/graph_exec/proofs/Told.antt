@@ -1,115 +1,101 @@
 -- What a watcher was told, step by step.
-use Rattle.std.proofs.Common.{◌≡◌, ℕ, Bool, Option, Some, None, List, [], ◌∷◌, ◌++◌, append-nil, append_assoc, refl, sym, ap, ◌∙◌, subst}
+use Rattle.std.proofs.Common.{◌≡◌, ℕ, Bool, Option, List, [], ◌∷◌, ◌++◌, append-nil, append_assoc, refl, sym, ap, ◌∙◌, subst}
 use Rattle.std.specs.List.{flat_map}
 use Rattle.std.proofs.lemmas.Grind.{flat_map-append}
-use Rattle.cluster_io.proofs.Pieces.{Adds-then}
-use Rattle.cluster_io.specs.Streams.{Adds}
-use Rattle.cluster_types.specs.declared.cluster.Cluster.{Cluster}
 use Rattle.cluster_types.specs.declared.journal.Answer.{Answer}
 use Rattle.cluster_types.specs.declared.journal.Event.{Event}
+use Rattle.cluster_types.specs.declared.journal.Event.TheVariants.{Begin}
 use Rattle.cluster_types.specs.declared.run.RunLine.{RunLine}
 use Rattle.cluster_types.specs.declared.run.RunLine.TheVariants as line
 use Rattle.cluster_types.specs.Steps.{StepsOn, begins}
-use Rattle.cluster_types.specs.Texts.{event_lines, run_line}
+use Rattle.cluster_types.specs.Texts.{event_lines}
 use Rattle.graph_exec.specs.declared.transition.ends.WatchedEnd.{WatchedEnd}
 use Rattle.graph_exec.specs.declared.transition.ends.WatchedEnd.TheVariants as how
 use Rattle.graph_exec.specs.declared.transition.watcher.Heard.{Heard}
 use Rattle.graph_exec.specs.declared.transition.watcher.Heard.TheVariants as heard
 use Rattle.graph_exec.specs.Inner.Rounds.{Answered, StopsAs}
 use Rattle.graph_exec.specs.Running.{Running, BeginsNow, Went, going, later}
-use Rattle.graph_exec.specs.Telling.{TellsLines, text_of}
 use Rattle.graph_exec.specs.Transitions.{HasGoneToEnd}
 use Rattle.graph_exec.specs.Watching.{Hears, AreLinesTold, heard_at}
 use Rattle.graph_exec.proofs.Carrying.{went_nowhere, went_on}
 
-pub text-append : (names : Option Cluster) (xs ys : List RunLine) → text_of names (xs ++ ys) ≡ text_of names xs ++ text_of names ys
-text-append None xs ys = refl
-text-append (Some c) xs ys = flat_map-append (run_line c) xs ys
+pub told_nothing : (Follows : List RunLine → Type 0) → Follows [] → (r : Running) → AreLinesTold Follows r r
+told_nothing Follows none r = record { events = []; happened = sym (append-nil r.since); told = none }
 
-pub adds_nothing : (names : Option Cluster) (text : Option (List ℕ)) → Adds text (text_of names []) text
-adds_nothing None None = refl
-adds_nothing None (Some text) = ap Some (sym (append-nil text))
-adds_nothing (Some c) None = refl
-adds_nothing (Some c) (Some text) = ap Some (sym (append-nil text))
+-- one part, and then the next
+module _ (First Then All : List RunLine → Type 0) (join : (lines more : List RunLine) → First lines → Then more → All (lines ++ more)) where
+  pub told_on : (first middle last : Running) → AreLinesTold First first middle → AreLinesTold Then middle last → AreLinesTold All first last
+  told_on first middle last a b = record {
+    events = a.events ++ b.events;
+    happened = b.happened ∙ ap (λ (es : List Event). es ++ b.events) a.happened ∙ append_assoc first.since a.events b.events;
+    told = subst All (sym (flat_map-append event_lines a.events b.events)) (join (flat_map event_lines a.events) (flat_map event_lines b.events) a.told b.told);
+  }
 
-module _ (names : Option Cluster) where
-  pub told_nothing : (r : Running) (text : Option (List ℕ)) → AreLinesTold names r r text text
-  told_nothing r text = record { events = []; happened = sym (append-nil r.since); added = adds_nothing names text }
-
-  pub told_on : (first middle last : Running) (before text after : Option (List ℕ)) → AreLinesTold names first middle before text → AreLinesTold names middle last text after
-      → AreLinesTold names first last before after
-  told_on first middle last before text after a b =
-      let sum : text_of names (flat_map event_lines (a.events ++ b.events)) ≡ text_of names (flat_map event_lines a.events) ++ text_of names (flat_map event_lines b.events)
-      = ap (text_of names) (flat_map-append event_lines a.events b.events) ∙ text-append names (flat_map event_lines a.events) (flat_map event_lines b.events) in
-      record {
-        events = a.events ++ b.events;
-        happened = b.happened ∙ ap (λ (es : List Event). es ++ b.events) a.happened ∙ append_assoc first.since a.events b.events;
-        added = subst (λ (bytes : List ℕ). Adds before bytes after) (sym sum)
-            (Adds-then before text after (text_of names (flat_map event_lines a.events)) (text_of names (flat_map event_lines b.events)) a.added b.added);
-      }
-
-  module _ (whole : Bool) (first middle last : Running) (rest between left : Option (List Answer)) (before text after : Option (List ℕ)) where
-    pub hears_on : (h : Heard) → Went whole first middle rest between → AreLinesTold names first middle before text
-        → Hears whole names middle last between left text after h → Hears whole names first last rest left before after h
-    hears_on heard.Go w a b = told_on first middle last before text after a b
+  module _ (StopThen StopAll : List RunLine → RunLine → Type 0)
+      (stop : (lines more : List RunLine) (at : RunLine) → First lines → StopThen more at → StopAll (lines ++ more) at)
+      (whole : Bool) (first middle last : Running) (rest between left : Option (List Answer)) where
+    pub hears_on : (h : Heard) → Went whole first middle rest between → AreLinesTold First first middle → Hears Then StopThen whole middle last between left h
+        → Hears All StopAll whole first last rest left h
+    hears_on heard.Go w a b = told_on first middle last a b
     hears_on heard.Stop w a b = record {
       at = b.at;
       middle = b.middle;
-      text = b.text;
+      before = a.events ++ b.before;
       events = b.events;
+      line = b.line;
       went = went_on whole first middle b.at rest between b.middle w b.went;
-      told = told_on first middle b.at before text b.text a b.told;
+      happened = b.happened ∙ ap (λ (es : List Event). es ++ b.before) a.happened ∙ append_assoc first.since a.events b.before;
       step = b.step;
       last = b.last;
-      added = b.added;
+      line_is = b.line_is;
+      stopped = subst (λ (lines : List RunLine). StopAll lines b.line) (sym (flat_map-append event_lines a.events b.before))
+          (stop (flat_map event_lines a.events) (flat_map event_lines b.before) b.line a.told b.stopped);
     }
 
+module _ (Follows : List RunLine → Type 0) (Stopped : List RunLine → RunLine → Type 0) (whole : Bool) (old new : Running) (rest left : Option (List Answer)) where
   -- one step, of one line
-  module _ (whole : Bool) (old new : Running) (events : List Event) (rest left : Option (List Answer)) (said : RunLine)
-      (step : StepsOn (going old) whole old.since rest events left) (goes_on : new ≡ later old events) (lines : flat_map event_lines events ≡ said ∷ [])
-      (before after : Option (List ℕ)) where
-    pub hears_step : (h : Heard) → TellsLines names (said ∷ []) before after h → Hears whole names old new rest left before after h
-    hears_step heard.Go t = record {
-      events = events;
-      happened = ap (λ (r : Running). r.since) goes_on;
-      added = subst (λ (ls : List RunLine). Adds before (text_of names ls) after) (sym lines) t;
-    }
-    hears_step heard.Stop t = record {
-      at = old;
-      middle = rest;
-      text = before;
-      events = events;
-      went = went_nowhere whole old rest;
-      told = told_nothing old before;
-      step = step;
-      last = goes_on;
-      added = rw lines t;
-    }
+  hears_step : (events : List Event) (said : RunLine) → StepsOn (going old) whole old.since rest events left → new ≡ later old events
+      → flat_map event_lines events ≡ said ∷ [] → (h : Heard) → (h ≡ heard.Go → Follows (said ∷ [])) → (h ≡ heard.Stop → Stopped [] said)
+      → Hears Follows Stopped whole old new rest left h
+  hears_step events said step goes_on lines heard.Go follows stopped =
+      record { events = events; happened = ap (λ (r : Running). r.since) goes_on; told = subst Follows (sym lines) (follows refl) }
+  hears_step events said step goes_on lines heard.Stop follows stopped = record {
+    at = old;
+    middle = rest;
+    before = [];
+    events = events;
+    line = said;
+    went = went_nowhere whole old rest;
+    happened = sym (append-nil old.since);
+    step = step;
+    last = goes_on;
+    line_is = lines;
+    stopped = stopped refl;
+  }
 
-  pub hears_begin : (whole : Bool) (old new : Running) (rest left : Option (List Answer)) (k : ℕ) (b : BeginsNow old new k) (before after : Option (List ℕ)) (h : Heard)
-      → left ≡ rest → TellsLines names (line.Begin k b.action ∷ []) before after h → Hears whole names old new rest left before after h
-  hears_begin whole old new rest left k b before after h same t =
-      rw same (hears_step whole old new _ rest rest (line.Begin k b.action) (begins rest k b.action b.begins) b.goes_on refl before after h t)
+  pub hears_begin : (k : ℕ) (b : BeginsNow old new k) (h : Heard) → left ≡ rest → (h ≡ heard.Go → Follows (line.Begin k b.action ∷ []))
+      → (h ≡ heard.Stop → Stopped [] (line.Begin k b.action)) → Hears Follows Stopped whole old new rest left h
+  hears_begin k b h same follows stopped =
+      hears_step (Begin k b.action ∷ []) (line.Begin k b.action)
+      (subst (λ (x : Option (List Answer)). StepsOn (going old) whole old.since rest (Begin k b.action ∷ []) x) (sym same) (begins rest k b.action b.begins)) b.goes_on refl
+      h follows stopped
 
-  pub hears_answer : (whole : Bool) (old new : Running) (rest left : Option (List Answer)) (given : Answer) (a : Answered whole old new rest left given)
-      (before after : Option (List ℕ)) (h : Heard) → TellsLines names (line.Taken given ∷ []) before after h → Hears whole names old new rest left before after h
-  hears_answer whole old new rest left given a before after h t =
-      hears_step whole old new a.events rest left (line.Taken given) a.step a.goes_on a.lines before after h t
+  pub hears_answer : (given : Answer) (a : Answered whole old new rest left given) (h : Heard) → (h ≡ heard.Go → Follows (line.Taken given ∷ []))
+      → (h ≡ heard.Stop → Stopped [] (line.Taken given)) → Hears Follows Stopped whole old new rest left h
+  hears_answer given a h follows stopped = hears_step a.events (line.Taken given) a.step a.goes_on a.lines h follows stopped
 
-  module _ (whole : Bool) (old new : Running) (rest left : Option (List Answer)) where
-    -- where no answer was taken, nothing is told
-    pub hears_none : (text : Option (List ℕ)) (end : WatchedEnd) → StopsAs whole old new rest left end → Hears whole names old new rest left text text (heard_at end)
-    hears_none text how.Complete s = absurd s
-    hears_none text (how.Aborted event) s = absurd s
-    hears_none text (how.Unexpected given) s = rw s.refused.same (told_nothing old text)
-    hears_none text how.SourceFault s = rw s.same (told_nothing old text)
-    hears_none text how.Stopped s = absurd s
+  -- where no answer was taken, nothing is told
+  pub hears_none : Follows [] → (end : WatchedEnd) → StopsAs whole old new rest left end → Hears Follows Stopped whole old new rest left (heard_at end)
+  hears_none none how.Complete s = absurd s
+  hears_none none (how.Aborted event) s = absurd s
+  hears_none none (how.Unexpected given) s = rw s.refused.same (told_nothing Follows none old)
+  hears_none none how.SourceFault s = rw s.same (told_nothing Follows none old)
+  hears_none none how.Stopped s = absurd s
 
-    -- nor where nothing more was to be done
-    pub hears_done : (before after : Option (List ℕ)) (end : WatchedEnd) → HasGoneToEnd end → AreLinesTold names old new before after
-        → Hears whole names old new rest left before after (heard_at end)
-    hears_done before after how.Complete d t = t
-    hears_done before after (how.Aborted event) d t = t
-    hears_done before after (how.Unexpected given) d t = absurd d
-    hears_done before after how.SourceFault d t = absurd d
-    hears_done before after how.Stopped d t = absurd d
+  -- nor where nothing more was to be done
+  pub hears_done : (end : WatchedEnd) → HasGoneToEnd end → AreLinesTold Follows old new → Hears Follows Stopped whole old new rest left (heard_at end)
+  hears_done how.Complete d t = t
+  hears_done (how.Aborted event) d t = t
+  hears_done (how.Unexpected given) d t = absurd d
+  hears_done how.SourceFault d t = absurd d
+  hears_done how.Stopped d t = absurd d

@@ -12,7 +12,6 @@ use Rattle.cluster_types.specs.Runs.{RunStanding, due, amid, idle, Runs, here, I
 use Rattle.cluster_types.specs.Safety.{IsAtRest, IsSafeRun}
 use Rattle.graph_exec.specs.Logs.{JournalOf}
 use Rattle.graph_exec.specs.Saying.{TakesAnswers}
-use Rattle.graph_exec.proofs.Told.{adds_nothing}
 use Rattle.run_safety.proofs.Rests.{at_rest, in_order}
 use Rattle.run_safety.proofs.SoFar.{runs_more}
 use Rattle.graph_exec.specs.declared.run.stop.ReplayStop.{ReplayStop}
@@ -30,9 +29,10 @@ asks_still c promotions one other (idle k es) h = h
 abbrev pub events_in : Journal → List Event
 events_in j = j.events
 
-module _ (s : Setting) (es : List Event) (a b : Sight) where
-  pub replays : (most : ℕ) (end : Result Journal ReplayStop) → RunEndsAs s (due 1 es) a b end → ReplaysAs s es a b most end
-  replays most (Ok journal) w = record {
+module _ (Follows : List RunLine → Type 0) (s : Setting) (es : List Event) (a b : Sight) where
+  pub replays : (Stopped : List RunLine → RunLine → Type 0) (most : ℕ) (end : Result Journal ReplayStop) → RunEndsAs Follows s (due 1 es) a b Stopped end
+      → ReplaysAs Follows Stopped s es a b most end
+  replays Stopped most (Ok journal) w = record {
     lines = w.lines;
     ended = record {
       run = record { last = w.last; behind = b.rest; steps = w.runs; over = w.over; leaves = ap events_in w.leaves };
@@ -40,12 +40,12 @@ module _ (s : Setting) (es : List Event) (a b : Sight) where
     };
     told = w.told;
   }
-  replays most (Err (stop.Unexpected journal given)) w = record {
+  replays Stopped most (Err (stop.Unexpected journal given)) w = record {
     lines = w.lines;
     ended = record { last = w.last; unread = w.unread; steps = w.runs; cut = w.cut; leaves = ap events_in w.leaves };
     told = w.told;
   }
-  replays most (Err (stop.SourceFault journal)) w = record {
+  replays Stopped most (Err (stop.SourceFault journal)) w = record {
     lines = w.lines;
     ended = record {
       run = record { last = w.last; steps = w.runs; asking = w.asking; leaves = ap events_in w.leaves };
@@ -62,36 +62,35 @@ module _ (s : Setting) (es : List Event) (a b : Sight) where
     };
     told = w.told;
   }
-  replays most (Err (stop.Stopped journal)) w = record {
+  replays Stopped most (Err (stop.Stopped journal)) w = record {
     lines = w.lines;
     call = w.call;
     closing = [];
-    text = w.text;
     run = record {
       before = w.before;
       next = w.next;
       last = w.next;
       middle = w.middle;
       steps = w.runs;
-      stopped = w.stopped;
+      stopped = w.step;
       closes = not_yet w.next;
       leaves = ap events_in w.leaves;
     };
     told = w.told;
-    front = w.front;
   }
-  replays most (Err (stop.Most journal)) w = absurd w
-  replays most (Err stop.NoMemory) w = record { lines = w.lines; at = w.at; run = w.runs; between = w.between; told = w.told }
+  replays Stopped most (Err (stop.Most journal)) w = absurd w
+  replays Stopped most (Err stop.NoMemory) w = record { lines = w.lines; at = w.at; run = w.runs; between = w.between; told = w.told }
 
-  pub up_to : (most : ℕ) (journal : Journal) (left : List Event) → journal.events ≡ left → HasComeTo s (due 1 es) a b (due (most + 1) left) → IsTold s es a b journal (at_most most)
-  up_to most journal left is w = record {
+  pub up_to : (Stopped : List RunLine → RunLine → Type 0) (most : ℕ) (journal : Journal) (left : List Event) → journal.events ≡ left → HasComeTo Follows s (due 1 es) a b (due (most + 1) left)
+      → IsTold Follows Stopped s es a b journal (at_most most)
+  up_to Stopped most journal left is w = record {
     lines = w.lines;
     ended = subst (λ (x : List Event). Runs s.cluster s.promotions s.whole (due 1 es) a.rest w.lines (due (most + 1) x) b.rest) (sym is) w.runs;
     told = w.told;
   }
 
   module _ (safe : IsSafeRun s.cluster s.promotions s.whole es a.rest) where
-    pub rests : (k : ℕ) (left : List Event) → HasComeTo s (due 1 es) a b (due k left) → IsAtRest left
+    pub rests : (k : ℕ) (left : List Event) → HasComeTo Follows s (due 1 es) a b (due k left) → IsAtRest left
     rests k left w = at_rest s.cluster s.promotions s.whole es (due k left) a.rest b.rest w.lines safe w.runs tt
 
     kept_at : (at : RunStanding) (left : Option (List Answer)) (lines : List RunLine) → Runs s.cluster s.promotions s.whole (due 1 es) a.rest lines at left
@@ -101,17 +100,17 @@ module _ (s : Setting) (es : List Event) (a b : Sight) where
       promotions_stay = ap (λ (j : Journal). j.promotions) is;
     }
 
-    pub kept : (end : Result Journal ReplayStop) → RunEndsAs s (due 1 es) a b end → OfJournal (IsJournalKept s.promotions) end
-    kept (Ok journal) w = kept_at w.last b.rest w.lines w.runs journal w.leaves
-    kept (Err (stop.Unexpected journal given)) w = kept_at w.last w.unread w.lines w.runs journal w.leaves
-    kept (Err (stop.SourceFault journal)) w = kept_at w.last b.rest w.lines w.runs journal w.leaves
-    kept (Err (stop.Stopped journal)) w =
+    pub kept : (Stopped : List RunLine → RunLine → Type 0) (end : Result Journal ReplayStop) → RunEndsAs Follows s (due 1 es) a b Stopped end → OfJournal (IsJournalKept s.promotions) end
+    kept Stopped (Ok journal) w = kept_at w.last b.rest w.lines w.runs journal w.leaves
+    kept Stopped (Err (stop.Unexpected journal given)) w = kept_at w.last w.unread w.lines w.runs journal w.leaves
+    kept Stopped (Err (stop.SourceFault journal)) w = kept_at w.last b.rest w.lines w.runs journal w.leaves
+    kept Stopped (Err (stop.Stopped journal)) w =
         kept_at w.next b.rest (w.lines ++ w.call)
-        (runs_more s.cluster s.promotions s.whole (due 1 es) w.before w.next a.rest w.middle b.rest w.lines w.call w.runs w.stopped) journal w.leaves
-    kept (Err (stop.Most journal)) w = absurd w
-    kept (Err stop.NoMemory) w = tt
+        (runs_more s.cluster s.promotions s.whole (due 1 es) w.before w.next a.rest w.middle b.rest w.lines w.call w.runs w.step) journal w.leaves
+    kept Stopped (Err (stop.Most journal)) w = absurd w
+    kept Stopped (Err stop.NoMemory) w = tt
 
-    pub kept_due : (k : ℕ) (journal : Journal) (left : List Event) → journal.events ≡ left → journal.promotions ≡ s.promotions → HasComeTo s (due 1 es) a b (due k left)
+    pub kept_due : (k : ℕ) (journal : Journal) (left : List Event) → journal.events ≡ left → journal.promotions ≡ s.promotions → HasComeTo Follows s (due 1 es) a b (due k left)
         → IsJournalKept s.promotions journal
     kept_due k journal left is same w = record {
       in_order = subst Orderly (sym is) (in_order s.cluster s.promotions s.whole es (due k left) a.rest b.rest w.lines safe w.runs);
@@ -119,15 +118,16 @@ module _ (s : Setting) (es : List Event) (a b : Sight) where
     }
 
 -- no memory is left before the first transition
-pub nothing_made : (s : Setting) (es : List Event) (a : Sight) → IsBetweenTwo s es a a
-nothing_made s es a = record { lines = []; at = due 1 es; run = here (due 1 es) a.rest; between = tt; told = adds_nothing s.names a.text }
+pub nothing_made : (Follows : List RunLine → Type 0) (Stopped : List RunLine → RunLine → Type 0) → Follows [] → (s : Setting) (es : List Event) (a : Sight)
+    → IsBetweenTwo Follows Stopped s es a a
+nothing_made Follows Stopped none s es a = record { lines = []; at = due 1 es; run = here (due 1 es) a.rest; between = tt; told = none }
 
 -- the run begins
-pub starts : (c : Cluster) (promotions : List Promotion) (whole steady : Bool) (names : Option Cluster) (es : List Event) (a : Sight) (j : JournalOf)
-    → j ≡ record { cluster = c; events = es; promotions = promotions } → CameTo (setting c promotions whole steady names) (due 1 es) a a (due 1) j
-starts c promotions whole steady names es a j is = record {
+pub starts : (Follows : List RunLine → Type 0) → Follows [] → (c : Cluster) (promotions : List Promotion) (whole steady : Bool) (es : List Event) (a : Sight) (j : JournalOf)
+    → j ≡ record { cluster = c; events = es; promotions = promotions } → CameTo Follows (setting c promotions whole steady) (due 1 es) a a (due 1) j
+starts Follows none c promotions whole steady es a j is = record {
   cluster_stays = ap (λ (x : JournalOf). x.cluster) is;
   promotions_stay = ap (λ (x : JournalOf). x.promotions) is;
-  came = subst (λ (x : List Event). HasComeTo (setting c promotions whole steady names) (due 1 es) a a (due 1 x)) (sym (ap (λ (x : JournalOf). x.events) is))
-      (came_nowhere (setting c promotions whole steady names) (due 1 es) a);
+  came = subst (λ (x : List Event). HasComeTo Follows (setting c promotions whole steady) (due 1 es) a a (due 1 x)) (sym (ap (λ (x : JournalOf). x.events) is))
+      (came_nowhere (setting c promotions whole steady) Follows none (due 1 es) a);
 }

@@ -1,6 +1,7 @@
--- What lasts of a source of answers and of a watcher, and what they have come to (rule of this project).
+-- What lasts of a source of answers and of a watcher, and what a source has come to (rule of this project).
 use Rattle.std.specs.Prelude.{◌≡◌, ◌≤◌, ℕ, true}
 use Rattle.cluster_io.specs.Streams.{Rose}
+use Rattle.cluster_types.specs.declared.cluster.Cluster.{Cluster}
 use Rattle.graph_exec.specs.declared.transition.ends.WatchedEnd.{WatchedEnd}
 use Rattle.graph_exec.specs.declared.transition.ends.WatchedEnd.TheVariants as how
 use Rattle.graph_exec.specs.declared.transition.outcomes.Next.{Next}
@@ -9,7 +10,6 @@ use Rattle.graph_exec.specs.declared.transition.outcomes.Outcomes.{Ghosts as Out
 use Rattle.graph_exec.specs.declared.transition.watcher.Heard.{Heard}
 use Rattle.graph_exec.specs.declared.transition.watcher.Heard.TheVariants as says
 use Rattle.graph_exec.specs.declared.transition.watcher.Watcher.{Ghosts as WatcherOf}
-use Rattle.graph_exec.specs.Watching.{HasHeard}
 
 -- the last word of a source: none of its questions failed, this was said last, or neither is told
 pub data LastWord : Type 0 where
@@ -49,9 +49,8 @@ module _ {A : Type 0} (s : OutcomesOf A) (old new : A) where
     pub came : HasSourceCome word
 
 module _ {B : Type 0} (v : WatcherOf B) (old new : B) where
-  -- what lasts of a watcher, and what it has come to by what it said at last
+  -- what lasts of a watcher, by what it said at last
   pub record WatcherLasts (heard : Heard) : Type 0 where
-    pub names : v.names new ≡ v.names old
+    pub same_lines : (c : Cluster) → v.is_of old c → v.is_of new c
     pub stops : v.stops old ≤ v.stops new
     pub cause : IsStopCounted (v.stops old) (v.stops new) heard
-    pub came : HasHeard (v.follows old new) (v.stopped old new) heard

@@ -1,8 +1,8 @@
 -- What a replay makes: a run from a journal on, of which a watcher is told the lines (Pacemaker Administration, "Transitions"; when a run ends is a
 -- rule of this project).
-use Rattle.std.specs.Prelude.{◌≡◌, ℕ, Bool, Option, IfSome, Result, Ok, Err, List}
-use Rattle.cluster_io.specs.Streams.{Adds, AddsPrefix}
+use Rattle.std.specs.Prelude.{◌≡◌, ◌++◌, ℕ, Bool, Option, Result, Ok, Err, List}
 use Rattle.cluster_types.specs.declared.cluster.Cluster.{Cluster}
+use Rattle.cluster_types.specs.declared.journal.Action.{Action}
 use Rattle.cluster_types.specs.declared.journal.Answer.{Answer}
 use Rattle.cluster_types.specs.declared.journal.Event.{Event}
 use Rattle.cluster_types.specs.declared.journal.Journal.{Journal}
@@ -12,54 +12,47 @@ use Rattle.cluster_types.specs.Journals.{Orderly}
 use Rattle.cluster_types.specs.Runs.{RunStanding, due, Runs, IsBetween, IsStoppedRun}
 use Rattle.graph_exec.specs.Lasting.{LastWord, none_failed, word_is}
 use Rattle.graph_exec.specs.RunEnds.{EndOfRun, EndsSo, at_most, in_failure, unexpected, with_all}
-use Rattle.graph_exec.specs.Telling.{text_of}
+use Rattle.graph_exec.specs.Telling.{RunView, StopsAmong, view_between}
 use Rattle.graph_exec.specs.declared.transition.outcomes.Next.TheVariants as next
 use Rattle.graph_exec.specs.declared.transition.watcher.Heard.{Heard}
 use Rattle.graph_exec.specs.declared.transition.watcher.Heard.TheVariants as heard
 use Rattle.graph_exec.specs.declared.run.stop.ReplayStop.{ReplayStop}
 use Rattle.graph_exec.specs.declared.run.stop.ReplayStop.TheVariants as stop
 
--- what is the same all along a run: the cluster, the promotion scores of the status, whether the answers to come are known to be all, whether the source
--- never fails once it has nothing more to say, and by whose names the lines are written
+-- what is the same all along a run: the cluster, the promotion scores of the status, whether the answers to come are known to be all, and whether the source
+-- never fails once it has nothing more to say
 pub record Setting : Type 0 where
   pub cluster : Cluster
   pub promotions : List Promotion
   pub whole : Bool
   pub steady : Bool
-  pub names : Option Cluster
 
-abbrev pub setting : Cluster → List Promotion → Bool → Bool → Option Cluster → Setting
-setting c promotions whole steady names = record { cluster = c; promotions = promotions; whole = whole; steady = steady; names = names }
+abbrev pub setting : Cluster → List Promotion → Bool → Bool → Setting
+setting c promotions whole steady = record { cluster = c; promotions = promotions; whole = whole; steady = steady }
 
--- the source and the watcher at a moment of it: the answers to come, whether nothing more is said, and the text that was told so far
+-- the source at a moment: the answers to come, and whether nothing more is said
 pub record Sight : Type 0 where
   pub rest : Option (List Answer)
   pub over : Bool
-  pub text : Option (List ℕ)
 
-abbrev pub sight : Option (List Answer) → Bool → Option (List ℕ) → Sight
-sight rest over text = record { rest = rest; over = over; text = text }
+abbrev pub sight : Option (List Answer) → Bool → Sight
+sight rest over = record { rest = rest; over = over }
 
--- a watcher that writes by names writes by those of the cluster
-abbrev pub WritesNamesOf : Cluster → Option Cluster → Type 0
-WritesNamesOf c names = IfSome names (λ (d : Cluster). d ≡ c)
-
-module _ (s : Setting) (es : List Event) (old new : Sight) where
+-- what the watcher has come to, of some lines: it went on by them, or stopped at the line behind them
+module _ (Follows : List RunLine → Type 0) (Stopped : List RunLine → RunLine → Type 0) (s : Setting) (es : List Event) (old new : Sight) where
   -- the run ended so, and each of its lines was told
   pub record IsTold (journal : Journal) (end : EndOfRun) : Type 0 where
     pub lines : List RunLine
     pub ended : EndsSo s.cluster s.promotions s.whole s.steady es old.rest new.rest lines journal.events end
-    pub told : Adds old.text (text_of s.names lines) new.text
+    pub told : Follows lines
 
-  -- the run was made up to where the watcher stopped: each line before its last call was told, and a front of the lines of that call
+  -- the run was made up to where the watcher stopped: at a line of its last call, each line before which was told
   pub record IsStopped (journal : Journal) : Type 0 where
     pub lines : List RunLine
     pub call : List RunLine
     pub closing : List RunLine
-    pub text : Option (List ℕ)
     pub run : IsStoppedRun s.cluster s.promotions s.whole es old.rest lines call closing journal.events new.rest
-    pub told : Adds old.text (text_of s.names lines) text
-    pub front : AddsPrefix (text_of s.names call) text new.text
+    pub told : StopsAmong (λ before at. Stopped (lines ++ before) at) call
 
   -- the run was made up to a place between two transitions, and each line up to there was told
   pub record IsBetweenTwo : Type 0 where
@@ -67,7 +60,7 @@ module _ (s : Setting) (es : List Event) (old new : Sight) where
     pub at : RunStanding
     pub run : Runs s.cluster s.promotions s.whole (due 1 es) old.rest lines at new.rest
     pub between : IsBetween s.cluster s.promotions s.whole at
-    pub told : Adds old.text (text_of s.names lines) new.text
+    pub told : Follows lines
 
   -- what was made of the journal, by how the run ended, where so many transitions were allowed
   abbrev pub ReplaysAs : ℕ → Result Journal ReplayStop → Type 0
@@ -96,9 +89,19 @@ pub record IsJournalKept (promotions : List Promotion) (journal : Journal) : Typ
 abbrev pub AgreesWith : (Cluster → List Event → ℕ → Type 0) → Cluster → Journal → Type 0
 AgreesWith agrees c journal = agrees c journal.events 0
 
--- the watcher has been shown the journal
-abbrev pub IsShownJournal : (Cluster → List Event → Type 0) → Cluster → Journal → Type 0
-IsShownJournal shown c journal = shown c journal.events
+-- the watcher has been shown this journal, and said this at last. A plan may have been under way
+pub record IsShownTo (Shown : Heard → RunView → Type 0) (c : Cluster) (promotions : List Promotion) (said : Heard) (es : List Event) : Type 0 where
+  pub plan : Option (List Action)
+  pub shown_last : Shown said (record { cluster = c; promotions = promotions; plan = plan; events = es })
+
+-- the watcher has been shown the journal that is handed back, by how the run ended. At the end of a transition no plan is under way any more
+abbrev pub IsShownEnd : (Heard → RunView → Type 0) → Cluster → List Promotion → Result Journal ReplayStop → Type 0
+IsShownEnd Shown c promotions (Ok journal) = Shown heard.Go (view_between c promotions journal.events)
+IsShownEnd Shown c promotions (Err (stop.Unexpected journal given)) = IsShownTo Shown c promotions heard.Go journal.events
+IsShownEnd Shown c promotions (Err (stop.SourceFault journal)) = IsShownTo Shown c promotions heard.Go journal.events
+IsShownEnd Shown c promotions (Err (stop.Stopped journal)) = IsShownTo Shown c promotions heard.Stop journal.events
+IsShownEnd Shown c promotions (Err (stop.Most journal)) = Shown heard.Go (view_between c promotions journal.events)
+IsShownEnd Shown c promotions (Err stop.NoMemory) = Unit {0}
 
 -- no answer came that doesn't apply
 abbrev pub IsReplayExpected : Result Journal ReplayStop → Type 0

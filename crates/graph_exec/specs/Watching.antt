@@ -1,10 +1,10 @@
--- What a watcher was told of a transition, from one moment of it to another (rule of this project).
-use Rattle.std.specs.Prelude.{◌≡◌, ◌++◌, ℕ, Bool, Option, Some, None, List}
+-- What a watcher was told of a transition, from one moment of it to another, and what it was shown (rule of this project).
+use Rattle.std.specs.Prelude.{◌≡◌, ◌++◌, ◌∷◌, [], Bool, Option, Some, None, List}
 use Rattle.std.specs.List.{flat_map}
-use Rattle.cluster_io.specs.Streams.{Adds, AddsPrefix}
-use Rattle.cluster_types.specs.declared.cluster.Cluster.{Cluster}
 use Rattle.cluster_types.specs.declared.journal.Answer.{Answer}
 use Rattle.cluster_types.specs.declared.journal.Event.{Event}
+use Rattle.cluster_types.specs.declared.run.RunLine.{RunLine}
+use Rattle.cluster_types.specs.Journals.{in_flight_by_begin}
 use Rattle.cluster_types.specs.Steps.{StepsOn}
 use Rattle.cluster_types.specs.Texts.{event_lines}
 use Rattle.graph_exec.specs.declared.transition.ends.End.{End}
@@ -14,7 +14,7 @@ use Rattle.graph_exec.specs.declared.transition.ends.WatchedEnd.TheVariants as h
 use Rattle.graph_exec.specs.declared.transition.watcher.Heard.{Heard}
 use Rattle.graph_exec.specs.declared.transition.watcher.Heard.TheVariants as heard
 use Rattle.graph_exec.specs.Running.{Running, Went, going, later}
-use Rattle.graph_exec.specs.Telling.{text_of}
+use Rattle.graph_exec.specs.Telling.{RunView, view_amid}
 
 -- the end of a transition that no watcher stopped
 abbrev pub watched : End → WatchedEnd
@@ -32,33 +32,35 @@ abbrev pub heard_in : Option WatchedEnd → Heard
 heard_in (Some end) = heard_at end
 heard_in None = heard.Go
 
--- the lines of all that has happened from one moment to the other were told
-pub record AreLinesTold (names : Option Cluster) (old new : Running) (before after : Option (List ℕ)) : Type 0 where
+-- the watcher went on by the lines of all that has happened from one moment to the other
+pub record AreLinesTold (Follows : List RunLine → Type 0) (old new : Running) : Type 0 where
   pub events : List Event
   pub happened : new.since ≡ old.since ++ events
-  pub added : Adds before (text_of names (flat_map event_lines events)) after
+  pub told : Follows (flat_map event_lines events)
 
--- the watcher stopped at the last step: the lines of all steps before it were told, and a front of its own
-pub record IsWatcherCutOff (whole : Bool) (names : Option Cluster) (old new : Running) (rest left : Option (List Answer)) (before after : Option (List ℕ)) : Type 0 where
+-- the watcher stopped at the line of the last step, behind the lines of all steps before it
+pub record IsWatcherCutOff (Stopped : List RunLine → RunLine → Type 0) (whole : Bool) (old new : Running) (rest left : Option (List Answer)) : Type 0 where
   pub at : Running
   pub middle : Option (List Answer)
-  pub text : Option (List ℕ)
+  pub before : List Event
   pub events : List Event
+  pub line : RunLine
   pub went : Went whole old at rest middle
-  pub told : AreLinesTold names old at before text
+  pub happened : at.since ≡ old.since ++ before
   pub step : StepsOn (going at) whole at.since middle events left
   pub last : new ≡ later at events
-  pub added : AddsPrefix (text_of names (flat_map event_lines events)) text after
+  pub line_is : flat_map event_lines events ≡ line ∷ []
+  pub stopped : Stopped (flat_map event_lines before) line
 
-abbrev pub Hears : Bool → Option Cluster → Running → Running → Option (List Answer) → Option (List Answer) → Option (List ℕ) → Option (List ℕ) → Heard → Type 0
-Hears whole names old new rest left before after heard.Go = AreLinesTold names old new before after
-Hears whole names old new rest left before after heard.Stop = IsWatcherCutOff whole names old new rest left before after
+abbrev pub Hears : (List RunLine → Type 0) → (List RunLine → RunLine → Type 0) → Bool → Running → Running → Option (List Answer) → Option (List Answer) → Heard → Type 0
+Hears Follows Stopped whole old new rest left heard.Go = AreLinesTold Follows old new
+Hears Follows Stopped whole old new rest left heard.Stop = IsWatcherCutOff Stopped whole old new rest left
 
--- what a watcher has come to, by what it said at last: it went on each time, or stopped then
-abbrev pub HasHeard : Type 0 → Type 0 → Heard → Type 0
-HasHeard Follows Stopped heard.Go = Follows
-HasHeard Follows Stopped heard.Stop = Stopped
+-- a transition as a watcher is shown it
+abbrev pub view_of : Running → RunView
+view_of r = view_amid r.cluster r.promotions r.graph.actions (r.planned_at ++ r.since)
 
--- the watcher has been shown the journal of a transition
-abbrev pub IsShownAll : (Cluster → List Event → Type 0) → Running → Type 0
-IsShownAll shown r = shown r.cluster (r.planned_at ++ r.since)
+-- nothing was in flight when the transition was planned, and the watcher has been shown all of it
+pub record IsShownAll (Shown : RunView → Type 0) (r : Running) : Type 0 where
+  pub idle : in_flight_by_begin r.planned_at ≡ []
+  pub shown_now : Shown (view_of r)

@@ -23,7 +23,7 @@ use Rattle.live_run.specs.Courses.{SourceState, answers_to_come, in_course, rest
 use Rattle.live_run.specs.Followed.{AreNear, EndsInOne, SourceFollows, HasAnswered, HasBroken, HasQuestionFailed, HasStopped, RestsBehind, StandFirst, View, answers, by_line, by_source, bytes_of, last_line, results_first, said_by, stays}
 use Rattle.live_run.specs.Saying.{is_last}
 use Rattle.live_run.specs.Writing.{line_refusal_text}
-use Rattle.live_run.proofs.Written.{prefix_first, prefix_then}
+use Rattle.live_run.proofs.Written.{prefix_first, prefix_then, stopped_text}
 use Rattle.live_run.specs.declared.course.Course.{Course}
 use Rattle.live_run.specs.declared.course.Course.TheVariants as course
 use Rattle.live_run.specs.declared.line_stop.LineStop.{LineStop}
@@ -36,7 +36,8 @@ use Rattle.live_run.specs.declared.live_end.LiveEnd.TheVariants as end
 use Rattle.live_run.proofs.Behind.{answer_in, runs_back, says_next, last_one, line_of_last, answers_size}
 use Rattle.live_run.proofs.Dues.{begins_due, one_end}
 use Rattle.input_reading.specs.declared.results.result_lines.ResultLine.{ResultLine}
-use Rattle.graph_exec.specs.Replays.{IsBetweenTwo, IsStopped, setting, sight}
+use Rattle.graph_exec.specs.Replays.{setting, sight}
+use Rattle.live_run.specs.Writing.{WritesLines, WritesUpTo}
 use Rattle.graph_exec.specs.Replays as replays
 use Rattle.graph_exec.specs.RunEnds.{at_most, in_failure, unexpected, with_all}
 use Rattle.run_safety.specs.Followed.{IsFront}
@@ -197,274 +198,281 @@ module _ (c : Cluster) (journal : Journal) (reading : Reading) where
 
   module _ (before after old new : Option (List ℕ)) (t : SourceState) (was is : Bool) where
     abbrev along : replays.Setting
-    along = setting c journal.promotions (whole_of (told_by start before)) true (Some c)
+    along = setting c journal.promotions (whole_of (told_by start before)) true
 
     abbrev reaches : LiveEnd → Type 0
     reaches how = IfSome before (λ left. Reaches c journal reading left after old new how)
 
-  done_reached : (before after old new : Option (List ℕ)) (t : SourceState) (was is : Bool) (j : Journal)
-      → replays.IsTold (along before after old new t was is) journal.events (sight (rest_of (told_by start before)) was old) (sight (rest_of (told_by t after)) is new) j with_all
-      → reaches before after old new t was is end.Done
-  done_reached None after old new t was is j w = tt
-  done_reached (Some left) after old new t was is j w = record {
-    text = run_lines_text c w.lines;
-    gets = record { lines = w.lines; run = whole_by (results_behind c journal reading left) w.lines j.events w.ended.run; printed = refl };
-    added = w.told;
-  }
+  -- what the writer has come to says what was written
+  module _ (Follows : List RunLine → Type 0) (Stopped : List RunLine → RunLine → Type 0) where
+    abbrev Tells : Option (List ℕ) → Option (List ℕ) → Type 0
+    Tells old new = (lines : List RunLine) → Follows lines → WritesLines c old new lines
 
-  -- behind a run that is cut
-  unexpected_reached : (before after old middle new : Option (List ℕ)) (t : SourceState) (was is : Bool) (j : Journal) (a : Answer)
-      → replays.IsTold (along before after old middle t was is) journal.events (sight (rest_of (told_by start before)) was old) (sight (rest_of (told_by t after)) is middle) j (unexpected a)
-      → SourceFollows start t before after → (how : LiveEnd) → EndsCut (run_line c (line.Unexpected t.line)) how middle new → reaches before after old new t was is how
-  unexpected_reached None after old middle new t was is j a w f how e = tt
-  unexpected_reached (Some left) after old middle new t was is j a w f how e =
-      let cut = cut_by left after t w.lines j.events a w.ended f in
-      by cut how (subst (λ (n : ℕ). EndsCut (run_line c (line.Unexpected n)) how middle new) cut.line e)
-    where
-      text_is : (cut : CutBy left after t w.lines) → EndGets c journal (results_behind c journal reading left) end.Unexpected (run_lines_text c w.lines ++ run_line c (line.Unexpected cut.result.line))
-      text_is cut = record { lines = w.lines; given = cut.given; result = cut.result; run = cut.run; printed = refl }
+    done_reached : (before after old new : Option (List ℕ)) (t : SourceState) (was is : Bool) (j : Journal) → Tells old new
+        → replays.IsTold Follows Stopped (along before after old new t was is) journal.events (sight (rest_of (told_by start before)) was) (sight (rest_of (told_by t after)) is) j with_all
+        → reaches before after old new t was is end.Done
+    done_reached None after old new t was is j tells w = tt
+    done_reached (Some left) after old new t was is j tells w = record {
+      text = run_lines_text c w.lines;
+      gets = record { lines = w.lines; run = whole_by (results_behind c journal reading left) w.lines j.events w.ended.run; printed = refl };
+      added = (tells w.lines w.told);
+    }
 
-      by : (cut : CutBy left after t w.lines) (how : LiveEnd) → EndsCut (run_line c (line.Unexpected cut.result.line)) how middle new → Reaches c journal reading left after old new how
-      by cut end.Unexpected put = record {
-        text = run_lines_text c w.lines ++ run_line c (line.Unexpected cut.result.line);
-        gets = text_is cut;
-        added = adds_then old middle new (run_lines_text c w.lines) (run_line c (line.Unexpected cut.result.line)) w.told put;
-      }
-      by cut end.WriteFault put = record {
-        call = of_unexpected (record { printed = w.lines; given = cut.given; result = cut.result; run = cut.run });
-        read = cut.read;
-        middle = middle;
-        before = w.told;
-        front = put;
-        begins = λ other whole gets.
-            subst (λ (x : List ℕ). AddsPrefix x old new)
-            (one_end c journal (results_behind c journal reading left) end.Unexpected other (run_lines_text c w.lines ++ run_line c (line.Unexpected cut.result.line)) whole (text_is cut) gets).1
-            (prefix_then (run_lines_text c w.lines) (run_line c (line.Unexpected cut.result.line)) old middle new w.told put);
-      }
-      by cut end.Done put = absurd put
-      by cut end.Refused put = absurd put
-      by cut end.TooLarge put = absurd put
-      by cut end.ReadFault put = absurd put
-      by cut end.NoMemory put = absurd put
+    -- behind a run that is cut
+    unexpected_reached : (before after old middle new : Option (List ℕ)) (t : SourceState) (was is : Bool) (j : Journal) (a : Answer) → Tells old middle
+        → replays.IsTold Follows Stopped (along before after old middle t was is) journal.events (sight (rest_of (told_by start before)) was) (sight (rest_of (told_by t after)) is) j (unexpected a)
+        → SourceFollows start t before after → (how : LiveEnd) → EndsCut (run_line c (line.Unexpected t.line)) how middle new → reaches before after old new t was is how
+    unexpected_reached None after old middle new t was is j a tells w f how e = tt
+    unexpected_reached (Some left) after old middle new t was is j a tells w f how e =
+        let cut = cut_by left after t w.lines j.events a w.ended f in
+        by cut how (subst (λ (n : ℕ). EndsCut (run_line c (line.Unexpected n)) how middle new) cut.line e)
+      where
+        text_is : (cut : CutBy left after t w.lines) → EndGets c journal (results_behind c journal reading left) end.Unexpected (run_lines_text c w.lines ++ run_line c (line.Unexpected cut.result.line))
+        text_is cut = record { lines = w.lines; given = cut.given; result = cut.result; run = cut.run; printed = refl }
 
-  -- the source failed
-  broken_reached : (left : List ℕ) (after old middle new : Option (List ℕ)) (t : SourceState) (was is : Bool) (j : Journal)
-      → replays.IsTold (along (Some left) after old middle t was is) journal.events (sight (rest_of (told_by start (Some left))) was old) (sight (rest_of (told_by t after)) is middle) j in_failure
-      → HasBroken start t (Some left) after → new ≡ middle → Reaches c journal reading left after old new end.ReadFault
-  broken_reached left after old middle new t was is j w h same = on after refl h.told h.read.cut
-    where
-      on : (o : Option (List ℕ)) → o ≡ after → Some (results_behind c journal reading left) ≡ option_map (λ rest. results_first h.given (coming_to t rest)) o
-          → Some (raw_lines (reading.held ++ left)) ≡ option_map (λ rest. h.lines ++ raw_lines (t.lines.reading.held ++ rest)) o → IsBrokenOff c journal reading left after old new
-      on None o e cut = cc
-      on (Some unread) o e cut =
-          let all = same_Some (results_behind c journal reading left) (results_first h.given (coming_to t unread)) e in
-          record {
-            bytes = h.bytes;
-            taken = h.read.taken;
-            whole = record {
-              lines = h.lines;
-              held = t.lines.reading.held;
-              unread = unread;
-              left_is = sym o;
-              parts =
-                  let given : left ≡ h.bytes ++ unread
-                  = same_Some left (h.bytes ++ unread)
-                  (subst (λ (x : Option (List ℕ)). Some left ≡ option_map (λ (rest : List ℕ). h.bytes ++ rest) x) (sym o) h.read.taken) in
-                  ap (λ (x : List ℕ). reading.held ++ x) given
-                  ∙ (sym (append_assoc reading.held h.bytes unread)
-                  ∙ (ap (λ (x : List ℕ). x ++ unread) h.read.parts ∙ append_assoc (bytes_of h.lines) t.lines.reading.held unread));
-              cut = same_Some (raw_lines (reading.held ++ left)) (h.lines ++ raw_lines (t.lines.reading.held ++ unread)) cut;
-            };
-            no_answer = record {
-              unfinished = h.unfinished;
-              undecided =
-                  let room = h.read.room in
-                  let left_room : t.lines.reading.room ≡ reading.room - length (bytes_of h.lines) = omega (arith, room) in
-                  subst (λ (n : ℕ). IsUndecided n reading.longest t.lines.reading.held) left_room
-                  (subst (λ (n : ℕ). IsUndecided t.lines.reading.room n t.lines.reading.held) h.read.same_size h.undecided);
-            };
-            ran = record {
-              given = h.given;
-              said = ap (said_by c start.lines) (sym (append-nil h.lines)) ∙ (h.read.answered []
-                  ∙ ap (λ (rs : List ResultLine). record { results = rs; stop = None }) (append-nil h.given));
-              behind = (coming_to t unread).results;
-              split = ap (λ (x : Coming). x.results) all;
-              printed = w.lines;
-              journal_now = j.events;
-              run = subst (λ (x : Option (List ℕ)). IsRunSoFar c journal.promotions (is_none (results_behind c journal reading left).stop) journal.events
-                  (Some (answers_to_come (results_behind c journal reading left))) w.lines j.events (rest_of (told_by t x))) (sym o) w.ended.run;
-              none_silent =
-                  let said = w.ended.said refl in
-                  let behind = answers_to_come (coming_to t unread) in
-                  let taken : answers_to_come (results_behind c journal reading left) ≡ said.answers ++ behind
-                  = same_Some (answers_to_come (results_behind c journal reading left)) (said.answers ++ behind)
-                  (subst (λ (x : Option (List ℕ)). Some (answers_to_come (results_behind c journal reading left)) ≡ option_map (λ xs. said.answers ++ xs) (rest_of (told_by t x))) (sym o)
-                  said.taken) in
-                  let split : answers_to_come (results_behind c journal reading left) ≡ map answer_in h.given ++ behind
-                  = ap (λ (x : Coming). answers_to_come x) all ∙ map-append answer_in h.given (coming_to t unread).results in
-                  subst (λ (xs : List Answer). IsRunSoFar c journal.promotions false journal.events (Some xs) w.lines j.events (Some []))
-                  (append_cancel_right said.answers (map answer_in h.given) behind (sym taken ∙ split)) said.run;
-              added = subst (λ (x : Option (List ℕ)). Adds old (run_lines_text c w.lines) x) (sym same) w.told;
-            };
-          }
+        by : (cut : CutBy left after t w.lines) (how : LiveEnd) → EndsCut (run_line c (line.Unexpected cut.result.line)) how middle new → Reaches c journal reading left after old new how
+        by cut end.Unexpected put = record {
+          text = run_lines_text c w.lines ++ run_line c (line.Unexpected cut.result.line);
+          gets = text_is cut;
+          added = adds_then old middle new (run_lines_text c w.lines) (run_line c (line.Unexpected cut.result.line)) (tells w.lines w.told) put;
+        }
+        by cut end.WriteFault put = record {
+          call = of_unexpected (record { printed = w.lines; given = cut.given; result = cut.result; run = cut.run });
+          read = cut.read;
+          middle = middle;
+          before = (tells w.lines w.told);
+          front = put;
+          begins = λ other whole gets.
+              subst (λ (x : List ℕ). AddsPrefix x old new)
+              (one_end c journal (results_behind c journal reading left) end.Unexpected other (run_lines_text c w.lines ++ run_line c (line.Unexpected cut.result.line)) whole (text_is cut) gets).1
+              (prefix_then (run_lines_text c w.lines) (run_line c (line.Unexpected cut.result.line)) old middle new (tells w.lines w.told) put);
+        }
+        by cut end.Done put = absurd put
+        by cut end.Refused put = absurd put
+        by cut end.TooLarge put = absurd put
+        by cut end.ReadFault put = absurd put
+        by cut end.NoMemory put = absurd put
 
-  -- a line stops the reading, so that nothing comes behind it
-  stops_here : (t : SourceState) (w : LineStop) (rest : List ℕ) → is_last w ≡ true → stop_of t ≡ Some w → coming_to t rest ≡ no_more (Some w)
-  stops_here t w rest last stop = by t.course t.failed stop
-    where
-      by : (k : Course) (failed : Bool) → why_stopped k failed ≡ Some w
-          → in_course k (coming t.cluster t.lines.reading.longest t.lines.at t.lines.reading.room (raw_lines (t.lines.reading.held ++ rest))) ≡ no_more (Some w)
-      by (course.Stopped v times) failed e = ap no_more e
-      by course.Reading true e = no_last e
-        where
-          no_last : Some why.ReadFault ≡ Some w → in_course course.Reading (coming t.cluster t.lines.reading.longest t.lines.at t.lines.reading.room (raw_lines (t.lines.reading.held ++ rest))) ≡ no_more (Some w)
-          no_last e = let same : w ≡ why.ReadFault = cc in let wrong : false ≡ true = ap is_last (sym same) ∙ last in absurd (let f : ⊥ = cc in f)
-      by course.Reading false e = cc
-      by course.Ended true e = no_last e
-        where
-          no_last : Some why.ReadFault ≡ Some w → no_more None ≡ no_more (Some w)
-          no_last e = let same : w ≡ why.ReadFault = cc in let wrong : false ≡ true = ap is_last (sym same) ∙ last in absurd (let f : ⊥ = cc in f)
-      by course.Ended false e = cc
+    -- the source failed
+    broken_reached : (left : List ℕ) (after old middle new : Option (List ℕ)) (t : SourceState) (was is : Bool) (j : Journal) → Tells old middle
+        → replays.IsTold Follows Stopped (along (Some left) after old middle t was is) journal.events (sight (rest_of (told_by start (Some left))) was) (sight (rest_of (told_by t after)) is) j in_failure
+        → HasBroken start t (Some left) after → new ≡ middle → Reaches c journal reading left after old new end.ReadFault
+    broken_reached left after old middle new t was is j tells w h same = on after refl h.told h.read.cut
+      where
+        on : (o : Option (List ℕ)) → o ≡ after → Some (results_behind c journal reading left) ≡ option_map (λ rest. results_first h.given (coming_to t rest)) o
+            → Some (raw_lines (reading.held ++ left)) ≡ option_map (λ rest. h.lines ++ raw_lines (t.lines.reading.held ++ rest)) o → IsBrokenOff c journal reading left after old new
+        on None o e cut = cc
+        on (Some unread) o e cut =
+            let all = same_Some (results_behind c journal reading left) (results_first h.given (coming_to t unread)) e in
+            record {
+              bytes = h.bytes;
+              taken = h.read.taken;
+              whole = record {
+                lines = h.lines;
+                held = t.lines.reading.held;
+                unread = unread;
+                left_is = sym o;
+                parts =
+                    let given : left ≡ h.bytes ++ unread
+                    = same_Some left (h.bytes ++ unread)
+                    (subst (λ (x : Option (List ℕ)). Some left ≡ option_map (λ (rest : List ℕ). h.bytes ++ rest) x) (sym o) h.read.taken) in
+                    ap (λ (x : List ℕ). reading.held ++ x) given
+                    ∙ (sym (append_assoc reading.held h.bytes unread)
+                    ∙ (ap (λ (x : List ℕ). x ++ unread) h.read.parts ∙ append_assoc (bytes_of h.lines) t.lines.reading.held unread));
+                cut = same_Some (raw_lines (reading.held ++ left)) (h.lines ++ raw_lines (t.lines.reading.held ++ unread)) cut;
+              };
+              no_answer = record {
+                unfinished = h.unfinished;
+                undecided =
+                    let room = h.read.room in
+                    let left_room : t.lines.reading.room ≡ reading.room - length (bytes_of h.lines) = omega (arith, room) in
+                    subst (λ (n : ℕ). IsUndecided n reading.longest t.lines.reading.held) left_room
+                    (subst (λ (n : ℕ). IsUndecided t.lines.reading.room n t.lines.reading.held) h.read.same_size h.undecided);
+              };
+              ran = record {
+                given = h.given;
+                said = ap (said_by c start.lines) (sym (append-nil h.lines)) ∙ (h.read.answered []
+                    ∙ ap (λ (rs : List ResultLine). record { results = rs; stop = None }) (append-nil h.given));
+                behind = (coming_to t unread).results;
+                split = ap (λ (x : Coming). x.results) all;
+                printed = w.lines;
+                journal_now = j.events;
+                run = subst (λ (x : Option (List ℕ)). IsRunSoFar c journal.promotions (is_none (results_behind c journal reading left).stop) journal.events
+                    (Some (answers_to_come (results_behind c journal reading left))) w.lines j.events (rest_of (told_by t x))) (sym o) w.ended.run;
+                none_silent =
+                    let said = w.ended.said refl in
+                    let behind = answers_to_come (coming_to t unread) in
+                    let taken : answers_to_come (results_behind c journal reading left) ≡ said.answers ++ behind
+                    = same_Some (answers_to_come (results_behind c journal reading left)) (said.answers ++ behind)
+                    (subst (λ (x : Option (List ℕ)). Some (answers_to_come (results_behind c journal reading left)) ≡ option_map (λ xs. said.answers ++ xs) (rest_of (told_by t x))) (sym o)
+                    said.taken) in
+                    let split : answers_to_come (results_behind c journal reading left) ≡ map answer_in h.given ++ behind
+                    = ap (λ (x : Coming). answers_to_come x) all ∙ map-append answer_in h.given (coming_to t unread).results in
+                    subst (λ (xs : List Answer). IsRunSoFar c journal.promotions false journal.events (Some xs) w.lines j.events (Some []))
+                    (append_cancel_right said.answers (map answer_in h.given) behind (sym taken ∙ split)) said.run;
+                added = subst (λ (x : Option (List ℕ)). Adds old (run_lines_text c w.lines) x) (sym same) (tells w.lines w.told);
+              };
+            }
 
-  -- what is written where a line stops the reading
-  stopped_by : (left : List ℕ) (after old middle new : Option (List ℕ)) (printed : List RunLine) → Adds old (run_lines_text c printed) middle → (given : List ResultLine) (w : LineStop)
-      → results_behind c journal reading left ≡ record { results = given; stop = Some w } → (results_behind c journal reading left).stop ≡ Some w
-      → AsksForMore c journal (results_behind c journal reading left) printed → (lines : List (List (List ℕ))) → StandFirst lines (raw_lines (reading.held ++ left))
-      → said_by c start.lines lines ≡ record { results = given; stop = Some w } → EndsInOne c start.lines lines → (bytes : List ℕ) → Some left ≡ option_map (λ (x : List ℕ). bytes ++ x) after
-      → AreNear start.lines lines bytes → (how : LiveEnd) → EndsLines (Some w) how middle new → is_last w ≡ true → Reaches c journal reading left after old new how
-  stopped_by left after old middle new printed added given (why.Refused n cause) all stop more lines first said ends bytes taken near end.Refused put last = record {
-    text = run_lines_text c printed ++ line_refusal_text n cause;
-    gets = record { lines = printed; line = n; cause = cause; stop = stop; run = more; printed = refl };
-    added = adds_then old middle new (run_lines_text c printed) (line_refusal_text n cause) added put;
-  }
-  stopped_by left after old middle new printed added given (why.Refused n cause) all stop more lines first said ends bytes taken near end.WriteFault put last = record {
-    call = of_refusal (record { printed = printed; line = n; cause = cause; stop = stop; run = more });
-    read = inl (record { lines = lines; first = first; said = said ∙ sym all; ends = ends; bytes = bytes; taken = taken; near = near });
-    middle = middle;
-    before = added;
-    front = put;
-    begins = λ other whole gets.
-        subst (λ (x : List ℕ). AddsPrefix x old new)
-        (one_end c journal (results_behind c journal reading left) end.Refused other (run_lines_text c printed ++ line_refusal_text n cause) whole
-        (record { lines = printed; line = n; cause = cause; stop = stop; run = more; printed = refl }) gets).1
-        (prefix_then (run_lines_text c printed) (line_refusal_text n cause) old middle new added put);
-  }
-  stopped_by left after old middle new printed added given why.TooLarge all stop more lines first said ends bytes taken near end.TooLarge put last = record {
-    text = run_lines_text c printed;
-    gets = record { lines = printed; stop = stop; run = more; printed = refl };
-    added = subst (λ (x : Option (List ℕ)). Adds old (run_lines_text c printed) x) (sym put) added;
-  }
-  stopped_by left after old middle new printed added given why.ReadFault all stop more lines first said ends bytes taken near how put last = let wrong : ⊥ = cc in absurd wrong
-  stopped_by left after old middle new printed added given (why.Refused n cause) all stop more lines first said ends bytes taken near how put last = absurd put
-  stopped_by left after old middle new printed added given why.TooLarge all stop more lines first said ends bytes taken near how put last = absurd put
+    -- a line stops the reading, so that nothing comes behind it
+    stops_here : (t : SourceState) (w : LineStop) (rest : List ℕ) → is_last w ≡ true → stop_of t ≡ Some w → coming_to t rest ≡ no_more (Some w)
+    stops_here t w rest last stop = by t.course t.failed stop
+      where
+        by : (k : Course) (failed : Bool) → why_stopped k failed ≡ Some w
+            → in_course k (coming t.cluster t.lines.reading.longest t.lines.at t.lines.reading.room (raw_lines (t.lines.reading.held ++ rest))) ≡ no_more (Some w)
+        by (course.Stopped v times) failed e = ap no_more e
+        by course.Reading true e = no_last e
+          where
+            no_last : Some why.ReadFault ≡ Some w → in_course course.Reading (coming t.cluster t.lines.reading.longest t.lines.at t.lines.reading.room (raw_lines (t.lines.reading.held ++ rest))) ≡ no_more (Some w)
+            no_last e = let same : w ≡ why.ReadFault = cc in let wrong : false ≡ true = ap is_last (sym same) ∙ last in absurd (let f : ⊥ = cc in f)
+        by course.Reading false e = cc
+        by course.Ended true e = no_last e
+          where
+            no_last : Some why.ReadFault ≡ Some w → no_more None ≡ no_more (Some w)
+            no_last e = let same : w ≡ why.ReadFault = cc in let wrong : false ≡ true = ap is_last (sym same) ∙ last in absurd (let f : ⊥ = cc in f)
+        by course.Ended false e = cc
 
-  stopped_reached : (left : List ℕ) (after old middle new : Option (List ℕ)) (t : SourceState) (was is : Bool) (j : Journal)
-      → replays.IsTold (along (Some left) after old middle t was is) journal.events (sight (rest_of (told_by start (Some left))) was old) (sight (rest_of (told_by t after)) is middle) j in_failure
-      → HasStopped start t (Some left) after → (how : LiveEnd) → EndsLines (stop_of t) how middle new → Reaches c journal reading left after old new how
-  stopped_reached left after old middle new t was is j w h how e = on after refl h.told
-    where
-      abbrev_none : Unit {0}
-      abbrev_none = tt
+    -- what is written where a line stops the reading
+    stopped_by : (left : List ℕ) (after old middle new : Option (List ℕ)) (printed : List RunLine) → Adds old (run_lines_text c printed) middle → (given : List ResultLine) (w : LineStop)
+        → results_behind c journal reading left ≡ record { results = given; stop = Some w } → (results_behind c journal reading left).stop ≡ Some w
+        → AsksForMore c journal (results_behind c journal reading left) printed → (lines : List (List (List ℕ))) → StandFirst lines (raw_lines (reading.held ++ left))
+        → said_by c start.lines lines ≡ record { results = given; stop = Some w } → EndsInOne c start.lines lines → (bytes : List ℕ) → Some left ≡ option_map (λ (x : List ℕ). bytes ++ x) after
+        → AreNear start.lines lines bytes → (how : LiveEnd) → EndsLines (Some w) how middle new → is_last w ≡ true → Reaches c journal reading left after old new how
+    stopped_by left after old middle new printed added given (why.Refused n cause) all stop more lines first said ends bytes taken near end.Refused put last = record {
+      text = run_lines_text c printed ++ line_refusal_text n cause;
+      gets = record { lines = printed; line = n; cause = cause; stop = stop; run = more; printed = refl };
+      added = adds_then old middle new (run_lines_text c printed) (line_refusal_text n cause) added put;
+    }
+    stopped_by left after old middle new printed added given (why.Refused n cause) all stop more lines first said ends bytes taken near end.WriteFault put last = record {
+      call = of_refusal (record { printed = printed; line = n; cause = cause; stop = stop; run = more });
+      read = inl (record { lines = lines; first = first; said = said ∙ sym all; ends = ends; bytes = bytes; taken = taken; near = near });
+      middle = middle;
+      before = added;
+      front = put;
+      begins = λ other whole gets.
+          subst (λ (x : List ℕ). AddsPrefix x old new)
+          (one_end c journal (results_behind c journal reading left) end.Refused other (run_lines_text c printed ++ line_refusal_text n cause) whole
+          (record { lines = printed; line = n; cause = cause; stop = stop; run = more; printed = refl }) gets).1
+          (prefix_then (run_lines_text c printed) (line_refusal_text n cause) old middle new added put);
+    }
+    stopped_by left after old middle new printed added given why.TooLarge all stop more lines first said ends bytes taken near end.TooLarge put last = record {
+      text = run_lines_text c printed;
+      gets = record { lines = printed; stop = stop; run = more; printed = refl };
+      added = subst (λ (x : Option (List ℕ)). Adds old (run_lines_text c printed) x) (sym put) added;
+    }
+    stopped_by left after old middle new printed added given why.ReadFault all stop more lines first said ends bytes taken near how put last = let wrong : ⊥ = cc in absurd wrong
+    stopped_by left after old middle new printed added given (why.Refused n cause) all stop more lines first said ends bytes taken near how put last = absurd put
+    stopped_by left after old middle new printed added given why.TooLarge all stop more lines first said ends bytes taken near how put last = absurd put
 
-      on : (o : Option (List ℕ)) → o ≡ after → Some (results_behind c journal reading left) ≡ option_map (λ (rest : List ℕ). record { results = h.given; stop = Some h.why }) o
-          → Reaches c journal reading left after old new how
-      on None o f = cc
-      on (Some rest) o f =
-          let all : results_behind c journal reading left ≡ record { results = h.given; stop = Some h.why }
-          = same_Some (results_behind c journal reading left) (record { results = h.given; stop = Some h.why }) f in
-          let stop : (results_behind c journal reading left).stop ≡ Some h.why = ap (λ (x : Coming). x.stop) all in
-          let behind : rest_of (told_by t after) ≡ Some []
-          = ap (λ (x : Option (List ℕ)). rest_of (told_by t x)) (sym o) ∙ ap (λ (x : Coming). Some (answers_to_come x)) (stops_here t h.why rest h.last h.stop) in
-          let more : AsksForMore c journal (results_behind c journal reading left) w.lines
-          = record {
-            left = j.events;
-            run = subst (λ (x : Option (List Answer)). IsRunSoFar c journal.promotions false journal.events (Some (answers_to_come (results_behind c journal reading left))) w.lines j.events x) behind
-                (subst (λ (z : Option LineStop). IsRunSoFar c journal.promotions (is_none z) journal.events (Some (answers_to_come (results_behind c journal reading left))) w.lines j.events
-                (rest_of (told_by t after))) stop w.ended.run);
-          } in
-          stopped_by left after old middle new w.lines w.told h.given h.why all stop more h.by.lines h.by.first h.by.said (inr h.by.ends) h.by.bytes h.by.taken h.by.near how
-          (subst (λ (z : Option LineStop). EndsLines z how middle new) h.stop e) h.last
+    stopped_reached : (left : List ℕ) (after old middle new : Option (List ℕ)) (t : SourceState) (was is : Bool) (j : Journal) → Tells old middle
+        → replays.IsTold Follows Stopped (along (Some left) after old middle t was is) journal.events (sight (rest_of (told_by start (Some left))) was) (sight (rest_of (told_by t after)) is) j in_failure
+        → HasStopped start t (Some left) after → (how : LiveEnd) → EndsLines (stop_of t) how middle new → Reaches c journal reading left after old new how
+    stopped_reached left after old middle new t was is j tells w h how e = on after refl h.told
+      where
+        abbrev_none : Unit {0}
+        abbrev_none = tt
 
-  failed_reached : (before after old middle new : Option (List ℕ)) (t : SourceState) (was is : Bool) (j : Journal)
-      → replays.IsTold (along before after old middle t was is) journal.events (sight (rest_of (told_by start before)) was old) (sight (rest_of (told_by t after)) is middle) j in_failure
-      → HasBroken start t before after ⊎ HasStopped start t before after → (how : LiveEnd) → EndsLines (stop_of t) how middle new → reaches before after old new t was is how
-  failed_reached None after old middle new t was is j w f how e = tt
-  failed_reached (Some left) after old middle new t was is j w (inl h) how e =
-      by how (subst (λ (z : Option LineStop). EndsLines z how middle new) h.why e)
-    where
-      by : (k : LiveEnd) → EndsLines (Some why.ReadFault) k middle new → Reaches c journal reading left after old new k
-      by end.ReadFault same = broken_reached left after old middle new t was is j w h same
-      by end.Done put = absurd put
-      by end.Unexpected put = absurd put
-      by end.Refused put = absurd put
-      by end.TooLarge put = absurd put
-      by end.WriteFault put = absurd put
-      by end.NoMemory put = absurd put
-  failed_reached (Some left) after old middle new t was is j w (inr h) how e = stopped_reached left after old middle new t was is j w h how e
+        on : (o : Option (List ℕ)) → o ≡ after → Some (results_behind c journal reading left) ≡ option_map (λ (rest : List ℕ). record { results = h.given; stop = Some h.why }) o
+            → Reaches c journal reading left after old new how
+        on None o f = cc
+        on (Some rest) o f =
+            let all : results_behind c journal reading left ≡ record { results = h.given; stop = Some h.why }
+            = same_Some (results_behind c journal reading left) (record { results = h.given; stop = Some h.why }) f in
+            let stop : (results_behind c journal reading left).stop ≡ Some h.why = ap (λ (x : Coming). x.stop) all in
+            let behind : rest_of (told_by t after) ≡ Some []
+            = ap (λ (x : Option (List ℕ)). rest_of (told_by t x)) (sym o) ∙ ap (λ (x : Coming). Some (answers_to_come x)) (stops_here t h.why rest h.last h.stop) in
+            let more : AsksForMore c journal (results_behind c journal reading left) w.lines
+            = record {
+              left = j.events;
+              run = subst (λ (x : Option (List Answer)). IsRunSoFar c journal.promotions false journal.events (Some (answers_to_come (results_behind c journal reading left))) w.lines j.events x) behind
+                  (subst (λ (z : Option LineStop). IsRunSoFar c journal.promotions (is_none z) journal.events (Some (answers_to_come (results_behind c journal reading left))) w.lines j.events
+                  (rest_of (told_by t after))) stop w.ended.run);
+            } in
+            stopped_by left after old middle new w.lines (tells w.lines w.told) h.given h.why all stop more h.by.lines h.by.first h.by.said (inr h.by.ends) h.by.bytes h.by.taken h.by.near how
+            (subst (λ (z : Option LineStop). EndsLines z how middle new) h.stop e) h.last
 
-  -- the writer stopped the run
-  cut_off_reached : (before after old new : Option (List ℕ)) (t : SourceState) (was is : Bool) (j : Journal)
-      → replays.IsStopped (along before after old new t was is) journal.events (sight (rest_of (told_by start before)) was old) (sight (rest_of (told_by t after)) is new) j
-      → SourceFollows start t before after → reaches before after old new t was is end.WriteFault
-  cut_off_reached None after old new t was is j w f = tt
-  cut_off_reached (Some left) after old new t was is j w f =
-      let g = given_by left after t f in
-      let coming = results_behind c journal reading left in
-      let run = subst (λ (x : Option (List Answer)). IsStoppedRun c journal.promotions (is_none coming.stop) journal.events (Some (answers_to_come coming)) w.lines w.call w.closing j.events x) g.rest w.run in
-      let on = runs_more c journal.promotions (is_none coming.stop) (due 1 journal.events) run.before run.next (Some (answers_to_come coming)) run.middle (Some (map answer_in g.behind)) w.lines w.call
-      run.steps run.stopped in
-      record {
-        call = in_run (record {
-          printed = w.lines;
-          call = w.call;
-          closing = w.closing;
-          journal_now = j.events;
-          given = g.given;
-          behind = g.behind;
-          split = g.split;
-          run = run;
-        });
-        read = g.read;
-        middle = w.text;
-        before = w.told;
-        front = w.front;
-        begins = λ other whole gets.
-            front_prefix (run_lines_text c (w.lines ++ w.call)) whole old new
-            (begins_due c journal coming run.next (Some (map answer_in g.behind)) (w.lines ++ w.call) other whole on gets)
-            (subst (λ (x : List ℕ). AddsPrefix x old new) (sym (flat_map-append (run_line c) w.lines w.call))
-            (prefix_then (run_lines_text c w.lines) (run_lines_text c w.call) old w.text new w.told w.front));
-      }
+    failed_reached : (before after old middle new : Option (List ℕ)) (t : SourceState) (was is : Bool) (j : Journal) → Tells old middle
+        → replays.IsTold Follows Stopped (along before after old middle t was is) journal.events (sight (rest_of (told_by start before)) was) (sight (rest_of (told_by t after)) is) j in_failure
+        → HasBroken start t before after ⊎ HasStopped start t before after → (how : LiveEnd) → EndsLines (stop_of t) how middle new → reaches before after old new t was is how
+    failed_reached None after old middle new t was is j tells w f how e = tt
+    failed_reached (Some left) after old middle new t was is j tells w (inl h) how e =
+        by how (subst (λ (z : Option LineStop). EndsLines z how middle new) h.why e)
+      where
+        by : (k : LiveEnd) → EndsLines (Some why.ReadFault) k middle new → Reaches c journal reading left after old new k
+        by end.ReadFault same = broken_reached left after old middle new t was is j tells w h same
+        by end.Done put = absurd put
+        by end.Unexpected put = absurd put
+        by end.Refused put = absurd put
+        by end.TooLarge put = absurd put
+        by end.WriteFault put = absurd put
+        by end.NoMemory put = absurd put
+    failed_reached (Some left) after old middle new t was is j tells w (inr h) how e = stopped_reached left after old middle new t was is j tells w h how e
 
-  -- memory ran out
-  between_reached : (before after old new : Option (List ℕ)) (t : SourceState) (was is : Bool)
-      → replays.IsBetweenTwo (along before after old new t was is) journal.events (sight (rest_of (told_by start before)) was old) (sight (rest_of (told_by t after)) is new)
-      → reaches before after old new t was is end.NoMemory
-  between_reached None after old new t was is w = tt
-  between_reached (Some left) after old new t was is w = record {
-    printed = w.lines;
-    at = w.at;
-    behind = rest_of (told_by t after);
-    run = w.run;
-    between = w.between;
-    ends = ends_between c journal.promotions (is_none (results_behind c journal reading left).stop) journal.events w.at (Some (answers_to_come (results_behind c journal reading left)))
-        (rest_of (told_by t after)) w.lines w.run w.between;
-    added = w.told;
-    begins = λ other whole gets.
-        front_prefix (run_lines_text c w.lines) whole old new
-        (begins_due c journal (results_behind c journal reading left) w.at (rest_of (told_by t after)) w.lines other whole w.run gets)
-        (whole_prefix (run_lines_text c w.lines) old new w.told);
-  }
+    -- the writer stopped the run
+    cut_off_reached : (before after old new : Option (List ℕ)) (t : SourceState) (was is : Bool) (j : Journal)
+        → ((lines : List RunLine) (at : RunLine) → Stopped lines at → WritesUpTo c old new lines at)
+        → replays.IsStopped Follows Stopped (along before after old new t was is) journal.events (sight (rest_of (told_by start before)) was) (sight (rest_of (told_by t after)) is) j
+        → SourceFollows start t before after → reaches before after old new t was is end.WriteFault
+    cut_off_reached None after old new t was is j stops w f = tt
+    cut_off_reached (Some left) after old new t was is j stops w f =
+        let g = given_by left after t f in
+        let coming = results_behind c journal reading left in
+        let run = subst (λ (x : Option (List Answer)). IsStoppedRun c journal.promotions (is_none coming.stop) journal.events (Some (answers_to_come coming)) w.lines w.call w.closing j.events x) g.rest w.run in
+        let on = runs_more c journal.promotions (is_none coming.stop) (due 1 journal.events) run.before run.next (Some (answers_to_come coming)) run.middle (Some (map answer_in g.behind)) w.lines w.call
+        run.steps run.stopped in
+        let text = stopped_text c old new w.lines w.call w.told.before w.told.at w.told.behind w.told.parts (stops (w.lines ++ w.told.before) w.told.at w.told.stopped) in
+        record {
+          call = in_run (record {
+            printed = w.lines;
+            call = w.call;
+            closing = w.closing;
+            journal_now = j.events;
+            given = g.given;
+            behind = g.behind;
+            split = g.split;
+            run = run;
+          });
+          read = g.read;
+          middle = text.middle;
+          before = text.told;
+          front = text.front;
+          begins = λ other whole gets.
+              front_prefix (run_lines_text c (w.lines ++ w.call)) whole old new
+              (begins_due c journal coming run.next (Some (map answer_in g.behind)) (w.lines ++ w.call) other whole on gets)
+              (subst (λ (x : List ℕ). AddsPrefix x old new) (sym (flat_map-append (run_line c) w.lines w.call))
+              (prefix_then (run_lines_text c w.lines) (run_lines_text c w.call) old text.middle new text.told text.front));
+        }
 
-  -- memory is said to be out where so many transitions were made as are never made
-  most_never : (before after old new : Option (List ℕ)) (t : SourceState) (was is : Bool) (j : Journal)
-      → replays.IsTold (along before after old new t was is) journal.events (sight (rest_of (told_by start before)) was old) (sight (rest_of (told_by t after)) is new) j (at_most 10001)
-      → reaches before after old new t was is end.NoMemory
-  most_never None after old new t was is j w = tt
-  most_never (Some left) after old new t was is j w =
-      let coming = results_behind c journal reading left in
-      let count = few_results c start.lines (raw_lines (reading.held ++ left)) (omega arith) in
-      let size : length (answers_to_come coming) ≡ length coming.results = answers_size coming.results in
-      never_most c journal.promotions (is_none coming.stop) journal.events (Some (answers_to_come coming)) (rest_of (told_by t after)) w.lines tt 10001 j.events (omega (arith, count, size)) w.ended
+    -- memory ran out
+    between_reached : (before after old new : Option (List ℕ)) (t : SourceState) (was is : Bool) → Tells old new
+        → replays.IsBetweenTwo Follows Stopped (along before after old new t was is) journal.events (sight (rest_of (told_by start before)) was) (sight (rest_of (told_by t after)) is)
+        → reaches before after old new t was is end.NoMemory
+    between_reached None after old new t was is tells w = tt
+    between_reached (Some left) after old new t was is tells w = record {
+      printed = w.lines;
+      at = w.at;
+      behind = rest_of (told_by t after);
+      run = w.run;
+      between = w.between;
+      ends = ends_between c journal.promotions (is_none (results_behind c journal reading left).stop) journal.events w.at (Some (answers_to_come (results_behind c journal reading left)))
+          (rest_of (told_by t after)) w.lines w.run w.between;
+      added = (tells w.lines w.told);
+      begins = λ other whole gets.
+          front_prefix (run_lines_text c w.lines) whole old new
+          (begins_due c journal (results_behind c journal reading left) w.at (rest_of (told_by t after)) w.lines other whole w.run gets)
+          (whole_prefix (run_lines_text c w.lines) old new (tells w.lines w.told));
+    }
+
+    -- memory is said to be out where so many transitions were made as are never made
+    most_never : (before after old new : Option (List ℕ)) (t : SourceState) (was is : Bool) (j : Journal)
+        → replays.IsTold Follows Stopped (along before after old new t was is) journal.events (sight (rest_of (told_by start before)) was) (sight (rest_of (told_by t after)) is) j (at_most 10001)
+        → reaches before after old new t was is end.NoMemory
+    most_never None after old new t was is j w = tt
+    most_never (Some left) after old new t was is j w =
+        let coming = results_behind c journal reading left in
+        let count = few_results c start.lines (raw_lines (reading.held ++ left)) (omega arith) in
+        let size : length (answers_to_come coming) ≡ length coming.results = answers_size coming.results in
+        never_most c journal.promotions (is_none coming.stop) journal.events (Some (answers_to_come coming)) (rest_of (told_by t after)) w.lines tt 10001 j.events (omega (arith, count, size)) w.ended
 
 -- which end a run gets, where no count rose and memory sufficed
 module _ (c : Cluster) (journal : Journal) (reading : Reading) (after old new : Option (List ℕ)) (Read Wrote : Type 0) where
@@ -491,33 +499,41 @@ module _ (c : Cluster) (journal : Journal) (reading : Reading) (after old new : 
 
 -- the same, of a source that stands at the beginning
 module _ (c : Cluster) (journal : Journal) (reading : Reading) (s t : SourceState) (d : Cluster) (fresh : s ≡ starting c (moment_of journal.events) reading) (names : d ≡ c)
-    (before after old middle new : Option (List ℕ)) (was is : Bool) (j : Journal) where
+    (before after old middle new : Option (List ℕ)) (was is : Bool) (j : Journal) (Follows : List RunLine → Type 0) (Stopped : List RunLine → RunLine → Type 0) where
   abbrev pub from : replays.Setting
-  from = setting c journal.promotions (whole_of (told_by s before)) true (Some d)
+  from = setting c journal.promotions (whole_of (told_by s before)) true
 
-  pub done_from : replays.IsTold from journal.events (sight (rest_of (told_by s before)) was old) (sight (rest_of (told_by t after)) is new) j with_all
+  abbrev pub TellsBy : Option (List ℕ) → Type 0
+  TellsBy now = (lines : List RunLine) → Follows lines → WritesLines d old now lines
+
+  tells_so : (now : Option (List ℕ)) → TellsBy now → (lines : List RunLine) → Follows lines → WritesLines c old now lines
+  tells_so now tells lines told = subst (λ (x : Cluster). WritesLines x old now lines) names (tells lines told)
+
+  pub done_from : TellsBy new → replays.IsTold Follows Stopped from journal.events (sight (rest_of (told_by s before)) was) (sight (rest_of (told_by t after)) is) j with_all
       → IfSome before (λ left. Reaches c journal reading left after old new end.Done)
-  done_from w = done_reached c journal reading before after old new t was is j (rw (fresh, names) at w)
+  done_from tells w = done_reached c journal reading Follows Stopped before after old new t was is j (tells_so new tells) (rw fresh at w)
 
-  pub unexpected_from : (a : Answer) → replays.IsTold from journal.events (sight (rest_of (told_by s before)) was old) (sight (rest_of (told_by t after)) is middle) j (unexpected a) → SourceFollows s t before after
+  pub unexpected_from : (a : Answer) → TellsBy middle → replays.IsTold Follows Stopped from journal.events (sight (rest_of (told_by s before)) was) (sight (rest_of (told_by t after)) is) j (unexpected a) → SourceFollows s t before after
       → (how : LiveEnd) → EndsCut (run_line d (line.Unexpected t.line)) how middle new → IfSome before (λ left. Reaches c journal reading left after old new how)
-  unexpected_from a w f how e = unexpected_reached c journal reading before after old middle new t was is j a (rw (fresh, names) at w) (rw fresh at f) how (subst (λ (x : Cluster). EndsCut (run_line x (line.Unexpected t.line)) how middle new) names e)
+  unexpected_from a tells w f how e = unexpected_reached c journal reading Follows Stopped before after old middle new t was is j a (tells_so middle tells) (rw fresh at w) (rw fresh at f) how (subst (λ (x : Cluster). EndsCut (run_line x (line.Unexpected t.line)) how middle new) names e)
 
-  pub failed_from : replays.IsTold from journal.events (sight (rest_of (told_by s before)) was old) (sight (rest_of (told_by t after)) is middle) j in_failure
+  pub failed_from : TellsBy middle → replays.IsTold Follows Stopped from journal.events (sight (rest_of (told_by s before)) was) (sight (rest_of (told_by t after)) is) j in_failure
       → HasBroken s t before after ⊎ HasStopped s t before after → (how : LiveEnd) → EndsLines (stop_of t) how middle new → IfSome before (λ left. Reaches c journal reading left after old new how)
-  failed_from w f how e = failed_reached c journal reading before after old middle new t was is j (rw (fresh, names) at w) (rw fresh at f) how e
+  failed_from tells w f how e = failed_reached c journal reading Follows Stopped before after old middle new t was is j (tells_so middle tells) (rw fresh at w) (rw fresh at f) how e
 
-  pub cut_off_from : replays.IsStopped from journal.events (sight (rest_of (told_by s before)) was old) (sight (rest_of (told_by t after)) is new) j → SourceFollows s t before after
+  pub cut_off_from : ((lines : List RunLine) (at : RunLine) → Stopped lines at → WritesUpTo d old new lines at) → replays.IsStopped Follows Stopped from journal.events (sight (rest_of (told_by s before)) was) (sight (rest_of (told_by t after)) is) j → SourceFollows s t before after
       → IfSome before (λ left. Reaches c journal reading left after old new end.WriteFault)
-  cut_off_from w f = cut_off_reached c journal reading before after old new t was is j (rw (fresh, names) at w) (rw fresh at f)
+  cut_off_from stops w f =
+      cut_off_reached c journal reading Follows Stopped before after old new t was is j
+      (λ lines at told. subst (λ (x : Cluster). WritesUpTo x old new lines at) names (stops lines at told)) (rw fresh at w) (rw fresh at f)
 
-  pub between_from : replays.IsBetweenTwo from journal.events (sight (rest_of (told_by s before)) was old) (sight (rest_of (told_by t after)) is new)
+  pub between_from : TellsBy new → replays.IsBetweenTwo Follows Stopped from journal.events (sight (rest_of (told_by s before)) was) (sight (rest_of (told_by t after)) is)
       → IfSome before (λ left. Reaches c journal reading left after old new end.NoMemory)
-  between_from w = between_reached c journal reading before after old new t was is (rw (fresh, names) at w)
+  between_from tells w = between_reached c journal reading Follows Stopped before after old new t was is (tells_so new tells) (rw fresh at w)
 
-  pub most_from : replays.IsTold from journal.events (sight (rest_of (told_by s before)) was old) (sight (rest_of (told_by t after)) is new) j (at_most 10001)
+  pub most_from : replays.IsTold Follows Stopped from journal.events (sight (rest_of (told_by s before)) was) (sight (rest_of (told_by t after)) is) j (at_most 10001)
       → IfSome before (λ left. Reaches c journal reading left after old new end.NoMemory)
-  most_from w = most_never c journal reading before after old new t was is j (rw (fresh, names) at w)
+  most_from w = most_never c journal reading Follows Stopped before after old new t was is j (rw fresh at w)
 
 pub failed_kind : (exact : Bool) (v u : View) → HasQuestionFailed exact v u → HasBroken v.standing u.standing v.left u.left ⊎ HasStopped v.standing u.standing v.left u.left
 failed_kind exact v u (by_source h failed) = inl h

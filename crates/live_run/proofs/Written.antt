@@ -1,32 +1,24 @@
 -- What is written of several lines, one after the other.
-use Rattle.std.specs.Prelude.{OnErr, OnOk}
-use Rattle.std.proofs.Common.{◌≡◌, ℕ, zero, suc, ◌+◌, ◌-◌, ◌≤◌, ◌<◌, Option, Some, None, Result, Ok, Err, List, [], ◌∷◌, ◌++◌, length, take, drop, append-nil, append_assoc, length-append, refl, ap, sym, subst, ◌∙◌, arith}
-use Rattle.std.specs.List.{flat_map, range_with_len}
+use Rattle.std.specs.Prelude.{IsErr, OnErr, OnOk, option_map}
+use Rattle.std.proofs.Common.{◌≡◌, ℕ, zero, suc, ◌+◌, ◌≤◌, Bool, Option, Some, None, Result, Ok, Err, List, [], ◌∷◌, ◌++◌, length, take, drop, append-nil, append_assoc, length-append, refl, ap, sym, subst, ◌∙◌, arith}
+use Rattle.std.specs.List.{flat_map}
+use Rattle.std.proofs.lemmas.Grind.{flat_map-append}
 use Rattle.std.proofs.Math.Seq.{take-append_seam, drop-append_seam, take-add}
-use Rattle.cluster_io.specs.Streams.{Adds, AddsPrefix}
+use Rattle.cluster_io.specs.Streams.{Adds, AddsPrefix, Bears}
 use Rattle.cluster_io.specs.declared.sink.WriteFault.{WriteFault}
+use Rattle.cluster_io.proofs.Bearing.{Bears-as}
 use Rattle.cluster_io.proofs.Pieces.{Adds-then}
 use Rattle.cluster_types.specs.declared.cluster.Cluster.{Cluster}
 use Rattle.cluster_types.specs.declared.run.RunLine.{RunLine}
 use Rattle.cluster_types.specs.Texts.{run_line}
-use Rattle.graph_exec.specs.Telling.{TellsLines}
-use Rattle.lemmas.proofs.Ranges.{flat_map-more}
-use Rattle.live_run.specs.Writing.{Puts, heard_of}
-use Rattle.trace_text.proofs.MoreLines.{lines_of_lines, lines_of_three}
+use Rattle.graph_exec.specs.declared.transition.watcher.Heard.TheVariants as heard
+use Rattle.graph_exec.specs.Telling.{StopsAmong}
+use Rattle.live_run.specs.Writing.{HasFailedAt, HasWrittenLines, IsSameSink, Puts, PutsLines, WritesLines, WritesUpTo, heard_of}
 
 -- nothing is added
 pub adds_none : (text : Option (List ℕ)) → Adds text [] text
 adds_none None = refl
 adds_none (Some t) = ap Some (sym (append-nil t))
-
--- nothing is written
-pub puts_none : (text : Option (List ℕ)) → Puts (Ok tt) [] text text
-puts_none text = adds_none text
-
--- the text of one line
-pub puts_one : {Y : Type 0} (r : Result (Unit {0}) WriteFault) (text : Y → List ℕ) (line : Y) (before after : Option (List ℕ)) → Puts r (text line) before after
-    → Puts r (flat_map text (line ∷ [])) before after
-puts_one r text line before after p = subst (λ (t : List ℕ). Puts r t before after) (sym (append-nil (text line))) p
 
 take_front : (k : ℕ) (first rest : List ℕ) → k ≤ length first → take k (first ++ rest) ≡ take k first
 take_front zero first rest h = refl
@@ -61,68 +53,78 @@ pub puts_then : (r : Result (Unit {0}) WriteFault) (first rest : List ℕ) (befo
 puts_then (Ok done) first rest before middle after a p = Adds-then before middle after first rest a p
 puts_then (Err fault) first rest before middle after a p = prefix_then first rest before middle after a p
 
--- the texts of the first numbers are a front of those of all
-front_by : (f : ℕ → List ℕ) (k m : ℕ) → (rest : List ℕ) × (flat_map f (range_with_len 0 (k + m)) ≡ flat_map f (range_with_len 0 k) ++ rest)
-front_by f k zero =
-    let e : k + 0 ≡ k = omega arith in
-    ([], ap (λ (n : ℕ). flat_map f (range_with_len 0 n)) e ∙ sym (append-nil (flat_map f (range_with_len 0 k))))
-front_by f k (suc m) =
-    let more = front_by f k m in
-    let e : k + suc m ≡ (k + m) + 1 = omega arith in (
-      more.0 ++ f (k + m),
-      ap (λ (n : ℕ). flat_map f (range_with_len 0 n)) e
-          ∙ (flat_map-more f (k + m) ∙ (ap (λ (t : List ℕ). t ++ f (k + m)) more.1 ∙ append_assoc (flat_map f (range_with_len 0 k)) more.0 (f (k + m)))),
-    )
+-- some lines were written, and a front of the next: as the lines before a call, and a front of those of the call
+pub record CallText (c : Cluster) (before after : Option (List ℕ)) (lines call : List RunLine) : Type 0 where
+  pub middle : Option (List ℕ)
+  pub told : WritesLines c before middle lines
+  pub front : AddsPrefix (flat_map (run_line c) call) middle after
 
--- the text of one number more
-pub more_put : (f : ℕ → List ℕ) (k : ℕ) (before middle after : Option (List ℕ)) → Adds before (flat_map f (range_with_len 0 k)) middle → Adds middle (f k) after
-    → Adds before (flat_map f (range_with_len 0 (k + 1))) after
-more_put f k before middle after a b =
-    subst (λ (t : List ℕ). Adds before t after) (sym (flat_map-more f k)) (Adds-then before middle after (flat_map f (range_with_len 0 k)) (f k) a b)
+module _ (c : Cluster) (lines front : List RunLine) where
+  parted : (before after : Option (List ℕ)) → WritesLines c before after (lines ++ front)
+      → WritesLines c (option_map (λ held. held ++ flat_map (run_line c) lines) before) after front
+  parted None after w = w
+  parted (Some held) after w =
+      w ∙ ap Some (ap (λ (t : List ℕ). held ++ t) (flat_map-append (run_line c) lines front) ∙ sym (append_assoc held (flat_map (run_line c) lines) (flat_map (run_line c) front)))
 
--- a write fails at the text of one number
-pub stopped_at : (f : ℕ → List ℕ) (k n : ℕ) (before middle after : Option (List ℕ)) → k < n → Adds before (flat_map f (range_with_len 0 k)) middle
-    → AddsPrefix (f k) middle after → AddsPrefix (flat_map f (range_with_len 0 n)) before after
-stopped_at f k n before middle after lt a p =
-    let one : AddsPrefix (flat_map f (range_with_len 0 (k + 1))) before after
-    = subst (λ (t : List ℕ). AddsPrefix t before after) (sym (flat_map-more f k)) (prefix_then (flat_map f (range_with_len 0 k)) (f k) before middle after a p) in
-    let more = front_by f (k + 1) (n - (k + 1)) in
-    let all : (k + 1) + (n - (k + 1)) ≡ n = omega (arith, lt) in
-    let whole : flat_map f (range_with_len 0 n) ≡ flat_map f (range_with_len 0 (k + 1)) ++ more.0
-    = ap (λ (i : ℕ). flat_map f (range_with_len 0 i)) (sym all) ∙ more.1 in
-    subst (λ (t : List ℕ). AddsPrefix t before after) (sym whole) (prefix_first (flat_map f (range_with_len 0 (k + 1))) more.0 before after one)
+pub stopped_text : (c : Cluster) (before after : Option (List ℕ)) (lines call front : List RunLine) (at : RunLine) (behind : List RunLine) → call ≡ front ++ at ∷ behind
+    → WritesUpTo c before after (lines ++ front) at → CallText c before after lines call
+stopped_text c before after lines call front at behind parts w =
+    let text : flat_map (run_line c) call ≡ flat_map (run_line c) front ++ (run_line c at ++ flat_map (run_line c) behind)
+    = ap (flat_map (run_line c)) parts ∙ flat_map-append (run_line c) front (at ∷ behind) in
+    record {
+      middle = option_map (λ held. held ++ flat_map (run_line c) lines) before;
+      told = refl;
+      front = subst (λ (t : List ℕ). AddsPrefix t (option_map (λ held. held ++ flat_map (run_line c) lines) before) after) (sym text)
+          (prefix_then (flat_map (run_line c) front) (run_line c at ++ flat_map (run_line c) behind) (option_map (λ held. held ++ flat_map (run_line c) lines) before) w.middle after
+          (parted c lines front before w.middle w.told)
+          (prefix_first (run_line c at) (flat_map (run_line c) behind) w.middle after w.front));
+    }
 
--- the lines of a leaf: those before its targets, its targets, and those behind them
-module _ {Y : Type 0} (text : Y → List ℕ) (first : List Y) (line : ℕ → List Y) (ns : List ℕ) (third : List Y) where
-  abbrev first_text : List ℕ
-  first_text = flat_map text first
+bears_none : (exact : Bool) (faults faults_now : ℕ) (done : Unit {0}) → Bears exact (IsErr {T = Unit {0}} {E = WriteFault} (Ok done)) faults faults_now
+    → Bears exact ⊥ faults faults_now
+bears_none exact faults faults_now done b = Bears-as exact (IsErr {T = Unit {0}} {E = WriteFault} (Ok done)) ⊥ faults faults_now (λ e. let f : ⊥ = cc in f) (λ none. absurd none) b
 
-  abbrev targets_text : List ℕ
-  targets_text = flat_map (λ n. flat_map text (line n)) ns
+bears_failed : (exact : Bool) (faults faults_now : ℕ) (fault : WriteFault) → Bears exact (IsErr {T = Unit {0}} {E = WriteFault} (Err fault)) faults faults_now
+    → Bears exact (Unit {0}) faults faults_now
+bears_failed exact faults faults_now fault b = Bears-as exact (IsErr {T = Unit {0}} {E = WriteFault} (Err fault)) (Unit {0}) faults faults_now (λ e. tt) (λ u. refl) b
 
-  abbrev third_text : List ℕ
-  third_text = flat_map text third
+-- a line is written by a writer, or it stops there
+module _ (exact : Bool) (c d : Cluster) (line : RunLine) (faults faults_now loan loan_now : ℕ) (before after : Option (List ℕ)) (same : d ≡ c) (sink : IsSameSink loan loan_now) where
+  pub wrote_one : (r : Result (Unit {0}) WriteFault) → Puts r (run_line c line) before after → Bears exact (IsErr r) faults faults_now → heard_of r ≡ heard.Go
+      → HasWrittenLines exact c d faults faults_now loan loan_now before after (line ∷ [])
+  wrote_one (Ok done) p b go = record {
+    cluster_stays = same;
+    put = record { bears = bears_none exact faults faults_now done b; same_sink = sink };
+    text = subst (λ (t : List ℕ). Adds before t after) (sym (append-nil (run_line c line))) p;
+  }
+  wrote_one (Err fault) p b go = let f : ⊥ = cc in absurd f
 
-  leaf_text : flat_map text (first ++ flat_map line ns ++ third) ≡ (first_text ++ targets_text) ++ third_text
-  leaf_text = lines_of_three text first (flat_map line ns) third ∙ ap (λ (t : List ℕ). (first_text ++ t) ++ third_text) (lines_of_lines text line ns)
+  pub failed_one : (r : Result (Unit {0}) WriteFault) → Puts r (run_line c line) before after → Bears exact (IsErr r) faults faults_now → heard_of r ≡ heard.Stop
+      → HasFailedAt exact c d faults faults_now loan loan_now before after [] line
+  failed_one (Ok done) p b go = let f : ⊥ = cc in absurd f
+  failed_one (Err fault) p b go = record {
+    cluster_stays = same;
+    put = record { bears = bears_failed exact faults faults_now fault b; same_sink = sink };
+    text = record { middle = before; told = adds_none before; front = p };
+  }
 
-  pub leaf_put : (r : Result (Unit {0}) WriteFault) (before one two after : Option (List ℕ)) → Adds before first_text one → Adds one targets_text two
-      → Puts r third_text two after → Puts r (flat_map text (first ++ flat_map line ns ++ third)) before after
-  leaf_put r before one two after a b d =
-      subst (λ (t : List ℕ). Puts r t before after) (sym leaf_text)
-      (puts_then r (first_text ++ targets_text) third_text before two after (Adds-then before one two first_text targets_text a b) d)
+-- the lines of a plan are
+module _ (exact : Bool) (c d : Cluster) (lines : List RunLine) (faults faults_now loan loan_now : ℕ) (before after : Option (List ℕ)) (same : d ≡ c) (sink : IsSameSink loan loan_now) where
+  pub wrote_lines : (r : Result (Unit {0}) WriteFault) → PutsLines c before after r lines → Bears exact (IsErr r) faults faults_now → heard_of r ≡ heard.Go
+      → HasWrittenLines exact c d faults faults_now loan loan_now before after lines
+  wrote_lines (Ok done) p b go = record { cluster_stays = same; put = record { bears = bears_none exact faults faults_now done b; same_sink = sink }; text = p }
+  wrote_lines (Err fault) p b go = let f : ⊥ = cc in absurd f
 
-  pub leaf_stopped : (before one after : Option (List ℕ)) → Adds before first_text one → AddsPrefix targets_text one after
-      → AddsPrefix (flat_map text (first ++ flat_map line ns ++ third)) before after
-  leaf_stopped before one after a p =
-      subst (λ (t : List ℕ). AddsPrefix t before after) (sym leaf_text)
-      (prefix_first (first_text ++ targets_text) third_text before after (prefix_then first_text targets_text before one after a p))
-
--- what was written of some lines is what the watcher was told
-pub tells : (c : Cluster) (lines : List RunLine) (r : Result (Unit {0}) WriteFault) (before after : Option (List ℕ)) → Puts r (flat_map (run_line c) lines) before after
-    → TellsLines (Some c) lines before after (heard_of r)
-tells c lines (Ok done) before after p = p
-tells c lines (Err fault) before after p = p
+  pub failed_lines : (r : Result (Unit {0}) WriteFault) → PutsLines c before after r lines → Bears exact (IsErr r) faults faults_now → heard_of r ≡ heard.Stop
+      → StopsAmong (HasFailedAt exact c d faults faults_now loan loan_now before after) lines
+  failed_lines (Ok done) p b go = let f : ⊥ = cc in absurd f
+  failed_lines (Err fault) p b go = record {
+    before = p.before;
+    at = p.at;
+    behind = p.behind;
+    parts = p.parts;
+    stopped = record { cluster_stays = same; put = record { bears = bears_failed exact faults faults_now fault b; same_sink = sink }; text = p.stopped };
+  }
 
 -- a text that is put together in another order
 pub puts_joined : (r : Result (Unit {0}) WriteFault) (first second third : List ℕ) (before after : Option (List ℕ)) → Puts r (first ++ (second ++ third)) before after
@@ -138,3 +140,48 @@ pub puts_written : (r : Result (Unit {0}) WriteFault) (text : List ℕ) (before 
     → Puts r text before after
 puts_written (Ok done) text before after a p = a
 puts_written (Err fault) text before after a p = p
+
+-- the first of some lines were written, and these are left
+pub record IsPut (c : Cluster) (before after : Option (List ℕ)) (lines left : List RunLine) : Type 0 where
+  pub passed : List RunLine
+  pub parts : lines ≡ passed ++ left
+  pub text : WritesLines c before after passed
+
+module _ (c : Cluster) (before after : Option (List ℕ)) (lines : List RunLine) where
+  pub put_first : (line : RunLine) (left : List RunLine) → lines ≡ line ∷ left → Adds before (run_line c line) after → IsPut c before after lines left
+  put_first line left parts text = record {
+    passed = line ∷ [];
+    parts = parts;
+    text = subst (λ (t : List ℕ). Adds before t after) (sym (append-nil (run_line c line))) text;
+  }
+
+  pub put_more : (middle : Option (List ℕ)) (left rest : List RunLine) (line : RunLine) → left ≡ line ∷ rest → Adds middle (run_line c line) after
+      → IsPut c before middle lines left → IsPut c before after lines rest
+  put_more middle left rest line next text p = record {
+    passed = p.passed ++ line ∷ [];
+    parts = p.parts ∙ (ap (λ (ls : List RunLine). p.passed ++ ls) next ∙ sym (append_assoc p.passed (line ∷ []) rest));
+    text = subst (λ (t : List ℕ). Adds before t after) (sym (flat_map-append (run_line c) p.passed (line ∷ [])))
+        (Adds-then before middle after (flat_map (run_line c) p.passed) (flat_map (run_line c) (line ∷ [])) p.text
+        (subst (λ (t : List ℕ). Adds middle t after) (sym (append-nil (run_line c line))) text));
+  }
+
+  -- the sink fails at the next
+  pub put_failed : (middle : Option (List ℕ)) (left rest : List RunLine) (line : RunLine) → left ≡ line ∷ rest → AddsPrefix (run_line c line) middle after
+      → IsPut c before middle lines left → StopsAmong (WritesUpTo c before after) lines
+  put_failed middle left rest line next front p = record {
+    before = p.passed;
+    at = line;
+    behind = rest;
+    parts = p.parts ∙ ap (λ (ls : List RunLine). p.passed ++ ls) next;
+    stopped = record { middle = middle; told = p.text; front = front };
+  }
+
+  -- none is left
+  pub put_all : (left : List RunLine) → left ≡ [] → IsPut c before after lines left → WritesLines c before after lines
+  put_all left none p =
+      subst (λ (ls : List RunLine). WritesLines c before after ls) (sym (p.parts ∙ (ap (λ (ls : List RunLine). p.passed ++ ls) none ∙ append-nil p.passed))) p.text
+
+  -- the sink fails at the first
+  pub failed_first : (line : RunLine) (left : List RunLine) → lines ≡ line ∷ left → AddsPrefix (run_line c line) before after → StopsAmong (WritesUpTo c before after) lines
+  failed_first line left parts front =
+      record { before = []; at = line; behind = left; parts = parts; stopped = record { middle = before; told = adds_none before; front = front } }

@@ -1,5 +1,11 @@
 -- A source of answers that are read from lines has come from itself, and from what it came from on the way; and so has a writer of lines.
-use Rattle.std.proofs.Common.{◌≡◌, ◌≢◌, ℕ, Bool, true, false, Option, Some, None, List, [], ◌∷◌, ◌++◌, option_map, refl, ap, sym, subst, ◌∙◌}
+use Rattle.std.proofs.Common.{◌≡◌, ◌≢◌, ℕ, Bool, true, false, Option, Some, None, List, [], ◌∷◌, ◌++◌, option_map, append-nil, refl, ap, sym, subst, ◌∙◌}
+use Rattle.std.specs.List.{flat_map}
+use Rattle.std.proofs.lemmas.Grind.{flat_map-append}
+use Rattle.cluster_io.specs.Streams.{Adds, AddsPrefix}
+use Rattle.cluster_io.proofs.Pieces.{Adds-then}
+use Rattle.cluster_types.specs.declared.run.RunLine.{RunLine}
+use Rattle.cluster_types.specs.Texts.{run_line}
 use Rattle.cluster_io.proofs.Bearing.{Bears-none, Bears-then}
 use Rattle.cluster_types.specs.declared.cluster.Cluster.{Cluster}
 use Rattle.graph_exec.specs.declared.transition.outcomes.Next.{Next}
@@ -8,7 +14,7 @@ use Rattle.input_reading.specs.declared.results.result_lines.ResultLine.{ResultL
 use Rattle.live_run.specs.Coming.{Coming}
 use Rattle.live_run.specs.Courses.{SourceState, has_course_ended, is_reading, coming_to}
 use Rattle.live_run.specs.Followed.{EndsInOne, SourceFollows, HasAnswered, HasBroken, HasQuestionFailed, HasCounted, HasFollowed, HasRead, HasSaid, HasStopped, IsStoppedBy, RestsBehind, View, answers, by_line, by_source, last_line, results_first, stays}
-use Rattle.live_run.specs.Writing.{HasPut}
+use Rattle.live_run.specs.Writing.{HasFailedAt, HasPut, HasWrittenLines, WritesLines}
 use Rattle.live_run.specs.declared.course.Course.{Course}
 use Rattle.live_run.specs.declared.course.Course.TheVariants as course
 use Rattle.live_run.specs.Inner.ReadLaws.{ends_then, near_then, read_then, stopped_then, told_joined}
@@ -150,11 +156,44 @@ module _ (exact : Bool) where
   said_behind a b d next.Failed f s = failed_later a b d f.follows f.counts s
 
 -- what a writer has written
-pub written_itself : (exact : Bool) (faults loan : ℕ) → HasPut exact ⊥ faults faults loan loan
-written_itself exact faults loan = record { bears = Bears-none exact ⊥ faults (λ none. none); same_sink = refl }
-
-pub written_then : (exact : Bool) (failed : Type 0) (f g h l m n : ℕ) → HasPut exact ⊥ f g l m → HasPut exact failed g h m n → HasPut exact failed f h l n
+written_then : (exact : Bool) (failed : Type 0) (f g h l m n : ℕ) → HasPut exact ⊥ f g l m → HasPut exact failed g h m n → HasPut exact failed f h l n
 written_then exact failed f g h l m n a b = record {
   bears = Bears-then exact ⊥ failed f g h (λ none. none) a.bears b.bears;
   same_sink = b.same_sink ∙ a.same_sink;
 }
+
+adds_no_line : (text : Option (List ℕ)) → Adds text [] text
+adds_no_line None = refl
+adds_no_line (Some t) = ap Some (sym (append-nil t))
+
+pub lines_itself : (exact : Bool) (c : Cluster) (faults loan : ℕ) (text : Option (List ℕ)) → HasWrittenLines exact c c faults faults loan loan text text []
+lines_itself exact c faults loan text = record {
+  cluster_stays = refl;
+  put = record { bears = Bears-none exact ⊥ faults (λ none. none); same_sink = refl };
+  text = adds_no_line text;
+}
+
+module _ (exact : Bool) (c d e : Cluster) (f g h l m n : ℕ) (before middle after : Option (List ℕ)) (lines more : List RunLine) (a : HasWrittenLines exact c d f g l m before middle lines) where
+  lines_added : (last : Option (List ℕ)) → WritesLines d middle last more → WritesLines c before last (lines ++ more)
+  lines_added last b =
+      subst (λ (t : List ℕ). Adds before t last) (sym (flat_map-append (run_line c) lines more))
+      (Adds-then before middle last (flat_map (run_line c) lines) (flat_map (run_line c) more) a.text
+      (subst (λ (x : Cluster). WritesLines x middle last more) a.cluster_stays b))
+
+  pub lines_then : HasWrittenLines exact d e g h m n middle after more → HasWrittenLines exact c e f h l n before after (lines ++ more)
+  lines_then b = record {
+    cluster_stays = b.cluster_stays ∙ a.cluster_stays;
+    put = written_then exact ⊥ f g h l m n a.put b.put;
+    text = lines_added after b.text;
+  }
+
+  pub lines_later : (at : RunLine) → HasFailedAt exact d e g h m n middle after more at → HasFailedAt exact c e f h l n before after (lines ++ more) at
+  lines_later at b = record {
+    cluster_stays = b.cluster_stays ∙ a.cluster_stays;
+    put = written_then exact (Unit {0}) f g h l m n a.put b.put;
+    text = record {
+      middle = b.text.middle;
+      told = lines_added b.text.middle b.text.told;
+      front = subst (λ (x : Cluster). AddsPrefix (run_line x at) b.text.middle after) a.cluster_stays b.text.front;
+    };
+  }

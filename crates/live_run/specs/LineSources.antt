@@ -22,5 +22,5 @@ abbrev pub outcomes_loan : {S : Type 0} {g : _} → LineOutcomes S g → ℕ
 outcomes_loan o = readers.loan_in o.reader
 
 -- the source at a moment, by what its source of bytes tells of what it has left and of its failures
-abbrev pub view_of : {S : Type 0} {g : _} → (S → Option (List ℕ)) → (S → ℕ) → LineOutcomes S g → View
-view_of left faults o = record { standing = standing_of o; left = left (outcomes_source o); faults = faults (outcomes_source o); loan = outcomes_loan o }
+abbrev pub outcomes_view : {S : Type 0} {g : _} → (S → Option (List ℕ)) → (S → ℕ) → LineOutcomes S g → View
+outcomes_view left faults o = record { standing = standing_of o; left = left (outcomes_source o); faults = faults (outcomes_source o); loan = outcomes_loan o }

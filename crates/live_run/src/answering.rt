@@ -9,7 +9,7 @@ impl<'c, 's, S: Source> Outcomes for LineOutcomes<'c, 's, S> {
     ghost use Rattle.std.specs.Prelude.{true, false};
     ghost use Rattle.live_run.specs.Courses.{faults_of, has_course_ended, rest_of, told_by, whole_of};
     ghost use Rattle.live_run.specs.Followed.{HasFollowed, HasSaid};
-    ghost use Rattle.live_run.specs.LineSources.{outcomes_source, standing_of, view_of};
+    ghost use Rattle.live_run.specs.LineSources.{outcomes_source, standing_of, outcomes_view};
     ghost use Rattle.live_run.specs.FollowedLaws.{followed_itself, followed_said, followed_then, said_behind};
 
     ghost rest = { λ o. rest_of (told_by (standing_of o) (S.left (outcomes_source o))) };
@@ -28,21 +28,21 @@ impl<'c, 's, S: Source> Outcomes for LineOutcomes<'c, 's, S> {
 
     ghost agrees = { λ _ _ _ _. Unit {0} };
 
-    ghost follows = { λ old new. HasFollowed S.counts_only_failures (view_of S.left S.faults old) (view_of S.left S.faults new) };
+    ghost follows = { λ old new. HasFollowed S.counts_only_failures (outcomes_view S.left S.faults old) (outcomes_view S.left S.faults new) };
 
-    ghost said = { λ old new brought. HasSaid S.counts_only_failures (view_of S.left S.faults old) (view_of S.left S.faults new) brought };
+    ghost said = { λ old new brought. HasSaid S.counts_only_failures (outcomes_view S.left S.faults old) (outcomes_view S.left S.faults new) brought };
 
     ghost anew = { λ _ _ _ _ agreed. agreed };
 
-    ghost from_itself = { λ source. followed_itself S.counts_only_failures (view_of S.left S.faults source) };
+    ghost from_itself = { λ source. followed_itself S.counts_only_failures (outcomes_view S.left S.faults source) };
 
-    ghost from_before = { λ first middle last. followed_then S.counts_only_failures (view_of S.left S.faults first)
-        (view_of S.left S.faults middle) (view_of S.left S.faults last) };
+    ghost from_before = { λ first middle last. followed_then S.counts_only_failures (outcomes_view S.left S.faults first)
+        (outcomes_view S.left S.faults middle) (outcomes_view S.left S.faults last) };
 
-    ghost from_said = { λ first last. followed_said S.counts_only_failures (view_of S.left S.faults first) (view_of S.left S.faults last) };
+    ghost from_said = { λ first last. followed_said S.counts_only_failures (outcomes_view S.left S.faults first) (outcomes_view S.left S.faults last) };
 
-    ghost said_later = { λ first middle last. said_behind S.counts_only_failures (view_of S.left S.faults first)
-        (view_of S.left S.faults middle) (view_of S.left S.faults last) };
+    ghost said_later = { λ first middle last. said_behind S.counts_only_failures (outcomes_view S.left S.faults first)
+        (outcomes_view S.left S.faults middle) (outcomes_view S.left S.faults last) };
 
     fn begun(&mut self, _number: u32, _action: Action) {}
 

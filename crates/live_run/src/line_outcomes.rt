@@ -39,7 +39,7 @@ pub struct LineOutcomes<'c, 's, S: Source> {
 }
 
 impl<'c, 's, S: Source> LineOutcomes<'c, 's, S> {
-    ghost use Rattle.live_run.specs.LineSources.{outcomes_loan, outcomes_source, standing_of, view_of};
+    ghost use Rattle.live_run.specs.LineSources.{outcomes_loan, outcomes_source, standing_of, outcomes_view};
 
     /// A source of the answers that the lines of a reader give, of which the first is taken at the moment, in seconds
     /// below 2^40, and has this number: 1 of a new reader, and behind a head the one that `HeadText` gives. The reader was
@@ -144,7 +144,7 @@ impl<'c, 's, S: Source> LineOutcomes<'c, 's, S> {
         requires { is_reading (standing_of self.old).course ≡ true }
         ensures answers { CourseAnswers result (standing_of self.old) (standing_of self.new)
             (S.left (outcomes_source self.old)) (S.left (outcomes_source self.new)) }
-        ensures said { HasSaid S.counts_only_failures (view_of S.left S.faults self.old) (view_of S.left S.faults self.new) result }
+        ensures said { HasSaid S.counts_only_failures (outcomes_view S.left S.faults self.old) (outcomes_view S.left S.faults self.new) result }
         ensures line { LineStays result (standing_of self.old).line (standing_of self.new).line }
         ensures asked { (standing_of self.new).lines.at.before ≤ (standing_of self.old).lines.at.before + 1 }
         ensures stop { result ≡ Next.Failed → is_some (stop_of (standing_of self.new)) ≡ true }
@@ -180,7 +180,7 @@ impl<'c, 's, S: Source> LineOutcomes<'c, 's, S> {
     pub fn ask(&mut self) -> Next
         ensures answers { CourseAnswers result (standing_of self.old) (standing_of self.new)
             (S.left (outcomes_source self.old)) (S.left (outcomes_source self.new)) }
-        ensures said { HasSaid S.counts_only_failures (view_of S.left S.faults self.old) (view_of S.left S.faults self.new) result }
+        ensures said { HasSaid S.counts_only_failures (outcomes_view S.left S.faults self.old) (outcomes_view S.left S.faults self.new) result }
         ensures line { LineStays result (standing_of self.old).line (standing_of self.new).line }
         ensures asked { (standing_of self.new).lines.at.before ≤ (standing_of self.old).lines.at.before + 1 }
         ensures stop { result ≡ Next.Failed → is_some (stop_of (standing_of self.new)) ≡ true }

@@ -82,25 +82,21 @@ fn first_node(placed: &Placed) -> Option<NodeId> {
 }
 
 impl<'a> Watcher for Follower<'a> {
-    ghost use Rattle.std.specs.Prelude.{None};
+    ghost is_of = { λ _ _. Unit {0} };
 
-    ghost told = { λ _. None };
+    ghost follows = { λ _ _ _. Unit {0} };
 
-    ghost names = { λ _. None };
+    ghost stopped = { λ _ _ _ _. Unit {0} };
 
     ghost shown = { λ _ _ _. Unit {0} };
 
     ghost stops = { λ w. w.stops };
 
-    ghost follows = { λ _ _. Unit {0} };
-
-    ghost stopped = { λ _ _. Unit {0} };
-
     ghost from_itself = { λ _. tt };
 
-    ghost from_before = { λ _ _ _ _ later. later };
+    ghost from_before = { λ _ _ _ _ _ _ later. later };
 
-    ghost stopped_later = { λ _ _ _ _ later. later };
+    ghost stopped_later = { λ _ _ _ _ _ _ _ later. later };
 
     fn planned(&mut self, transition: u32, placed: &Placed) -> Heard {
         self.hear(Line::Transition(transition, first_node(placed)))

@@ -16,13 +16,9 @@ pub mod OneSummary
 pub mod Comments
 pub mod ReadsAgain
 -- An audit.
-pub mod Lines
-pub mod LineTexts
-pub mod FirstBytes
-pub mod Named
-pub mod AuditDues
-pub mod NamedRuns
-pub mod Verdicts
+pub mod Told
+pub mod Shows
+pub mod Audited
+pub mod FewLines
 pub mod Exclusive
 pub mod OneFault
-pub mod Stopped

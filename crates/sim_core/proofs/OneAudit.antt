@@ -1,24 +1,19 @@
 -- An input gets one status with the word `audit`.
 use Rattle.std.proofs.Common.{◌≡◌, ℕ, List, map, refl, sym, subst}
-use Rattle.std.specs.List.{AllByRecursion}
 use Rattle.cluster_types.specs.declared.cluster.Cluster.{Cluster}
 use Rattle.cluster_types.specs.declared.journal.Journal.{Journal}
 use Rattle.cluster_types.specs.declared.run.RunLine.{RunLine}
-use Rattle.cluster_types.specs.Valid.{IsValid}
 use Rattle.input_reading.specs.declared.input.trace.Trace.{Trace}
 use Rattle.input_reading.proofs.OneReading.{not_both_of_a_trace, one_trace}
-use Rattle.input_reading.proofs.ValidTrace.{cluster_valid, run_named}
-use Rattle.input_reading.specs.Written.{IsLineNamed}
 use Rattle.sim_core.specs.declared.verdict.Clause.{Clause}
 use Rattle.sim_core.specs.Lawful.{IsFaultyClause, IsLawfulRun, said}
-use Rattle.sim_core.proofs.Verdicts.{said_named}
 use Rattle.sim_core.specs.declared.status.Status.{Status}
 use Rattle.sim_core.specs.declared.status.Status.TheVariants.{Done, NotLawful, Refused}
 use Rattle.sim_core.specs.Audit.{IsAuditOutput, IsLawfulTrace, IsTraceRefusal, IsUnlawfulTrace}
 
 -- a run with a line that isn't the due one isn't lawful
 abbrev pub AreExcluded : Type 0
-AreExcluded = (c : Cluster) (journal : Journal) (lines : List RunLine) (place : ℕ) (kind : Clause) → IsValid c → AllByRecursion IsLineNamed lines
+AreExcluded = (c : Cluster) (journal : Journal) (lines : List RunLine) (place : ℕ) (kind : Clause)
     → IsFaultyClause c journal lines place kind → ¬ IsLawfulRun c journal lines
 
 module _ (excluded : AreExcluded) (input : List ℕ) where
@@ -27,8 +22,7 @@ module _ (excluded : AreExcluded) (input : List ℕ) where
       let same : b.whole ≡ a.whole = one_trace input b.whole a.whole b.reads a.reads in
       let lawful : IsLawfulRun b.whole.head.cluster b.whole.head.journal (said b.whole.run.lines)
       = subst (λ (t : Trace). IsLawfulRun t.head.cluster t.head.journal (said t.run.lines)) (sym same) a.lawful in
-      excluded b.whole.head.cluster b.whole.head.journal (said b.whole.run.lines) b.fault.place b.clause (cluster_valid input b.whole b.reads)
-      (said_named b.whole.run.lines (run_named input b.whole b.reads)) b.fault.fault lawful
+      excluded b.whole.head.cluster b.whole.head.journal (said b.whole.run.lines) b.fault.place b.clause b.fault.fault lawful
 
   lawful_or_refused : (text more : List ℕ) → IsLawfulTrace input text → ¬ IsTraceRefusal input more
   lawful_or_refused text more a b = not_both_of_a_trace input (record { whole = a.whole; reads = a.reads }) (record { line = b.line; why = b.why; fault = b.fault })

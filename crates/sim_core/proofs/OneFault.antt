@@ -1,15 +1,14 @@
 -- A run has at most one first line that isn't the due one.
-use Rattle.std.proofs.Common.{arith, ◌≡◌, ◌⊎◌, inl, inr, ◌<◌, nat_lt, ℕ, zero, suc, Bool, true, false, List, [], ◌∷◌, ◌++◌, length, take, drop, map, refl, sym, subst, ap, ◌∙◌}
+use Rattle.std.proofs.Common.{arith, ◌≡◌, ◌⊎◌, inl, inr, ◌<◌, nat_lt, ℕ, zero, suc, Bool, true, false, List, [], ◌∷◌, ◌++◌, length, take, drop, refl, sym, subst, ap, ◌∙◌}
 use Rattle.std.specs.Prelude.{Option, Some, slice_get}
 use Rattle.std.proofs.lemmas.Bool.Decides.{nat_tests}
-use Rattle.std.proofs.lemmas.List.{length-map, length-take-le, take-append-drop}
+use Rattle.std.proofs.lemmas.List.{length-take-le, take-append-drop}
 use Rattle.std.proofs.lemmas.Option.{none-some}
 use Rattle.cluster_types.specs.declared.cluster.Cluster.{Cluster}
 use Rattle.cluster_types.specs.declared.journal.Answer.{Answer}
 use Rattle.cluster_types.specs.declared.journal.Journal.{Journal}
 use Rattle.cluster_types.specs.declared.run.RunLine.{RunLine}
 use Rattle.cluster_types.specs.Runs.{due}
-use Rattle.cluster_types.specs.Texts.{run_line}
 use Rattle.run_safety.specs.Followed.{AreOnOneWay, IsFront, other_first, this_first}
 use Rattle.run_safety.proofs.Beginnings.{begins_cut, begins_whole}
 use Rattle.run_safety.proofs.OneEnd.{cut_one, whole_one, whole_or_cut}
@@ -17,8 +16,7 @@ use Rattle.run_safety.proofs.OneRun.{one_way}
 use Rattle.run_safety.proofs.PlansAreOne.{plans_one}
 use Rattle.sim_core.specs.declared.verdict.Clause.{Clause}
 use Rattle.sim_core.specs.Lawful.{IsCutRunOfLines, IsFaultyClause, IsOther, IsSoFar, IsUndue, IsWholeRunOfLines, answers_of_lines, clause_of, other, undue}
-use Rattle.sim_core.proofs.Exclusive.{in_front, made}
-use Rattle.sim_core.proofs.Verdicts.{stands}
+use Rattle.sim_core.proofs.Exclusive.{in_front}
 
 -- what stands before a place at which something stands
 record StandsAt {X : Type 0} (xs : List X) (i : ℕ) : Type 0 where
@@ -56,26 +54,16 @@ module _ (c : Cluster) (journal : Journal) (lines : List RunLine) where
           let there : slice_get some place ≡ Some b = subst (λ xs. slice_get xs place ≡ Some b) (sym g.joined) (in_front more g.more place b f) in
           cc
 
-  -- a line that stands within a front of the same texts
-  record IsAlike (place : ℕ) (printed : RunLine) : Type 0 where
-    line : RunLine
-    there : slice_get lines place ≡ Some line
-    same : run_line c line ≡ run_line c printed
-
-  alike : (n place : ℕ) (front : List RunLine) (a : RunLine) → map (run_line c) front ≡ map (run_line c) (take n lines) → slice_get front place ≡ Some a → IsAlike place a
-  alike n place front a e f =
-      let there : slice_get (map (run_line c) (take n lines)) place ≡ Some (run_line c a)
-      = subst (λ xs. slice_get xs place ≡ Some (run_line c a)) e (stands (run_line c) front place a f) in
-      let l = made (run_line c) (take n lines) place (run_line c a) there in
-      record { line = l.0; there = from_front n place lines l.0 l.1; same = l.2 }
+  -- a line within a front that the lines have too
+  alike : (n place : ℕ) (front : List RunLine) (a : RunLine) → front ≡ take n lines → slice_get front place ≡ Some a → slice_get lines place ≡ Some a
+  alike n place front a e f = from_front n place lines a (subst (λ xs. slice_get xs place ≡ Some a) e f)
 
   -- of two other lines neither stands before the other
   none_before : (place q : ℕ) (kind sort : Clause) → IsOther c journal lines place kind → IsOther c journal lines q sort → place < q → ⊥
   none_before place q kind sort o p low =
       let b = earlier p.printed place q p.due low p.due_there in
       let same = one_line o.printed p.printed o.so_far p.so_far place o.due b.what o.due_there b.there in
-      let l = alike q place (take q p.printed) b.what p.same (into_front q place p.printed b.what low b.there) in
-      o.other l.line l.there (l.same ∙ ap (λ x. run_line c x) (sym same))
+      o.different (alike q place (take q p.printed) b.what p.same (into_front q place p.printed b.what low b.there) ∙ ap Some (sym same))
 
   same_kind : (place : ℕ) (kind sort : Clause) → IsOther c journal lines place kind → IsOther c journal lines place sort → kind ≡ sort
   same_kind place kind sort o p =
@@ -97,17 +85,11 @@ module _ (c : Cluster) (journal : Journal) (lines : List RunLine) where
       let front = front_of q o.printed o.so_far u in
       let there : slice_get u.printed place ≡ Some o.due
       = subst (λ xs. slice_get xs place ≡ Some o.due) (sym front.joined) (in_front o.printed front.more place o.due o.due_there) in
-      let l = alike q place u.printed o.due u.same there in
-      o.other l.line l.there l.same
+      o.different (alike q place u.printed o.due u.same there)
 
   -- they are undue from one place on
   place_is : (place : ℕ) (u : IsUndue c journal lines place) → length u.printed ≡ place
-  place_is place u =
-      let one = length-map u.printed (run_line c) in
-      let other = length-map (take place lines) (run_line c) in
-      let same : length (map (run_line c) u.printed) ≡ length (map (run_line c) (take place lines)) = ap (λ xs. length xs) u.same in
-      let all = length-take-le place lines u.within in
-      omega arith
+  place_is place u = ap (λ xs. length xs) u.same ∙ length-take-le place lines u.within
 
   one_printed : (place q : ℕ) (u : IsUndue c journal lines place) (v : IsUndue c journal lines q) → u.printed ≡ v.printed
   one_printed place q u v = by u.ends v.ends where

@@ -1,5 +1,5 @@
 -- What no public clause rests on: what the code of this crate keeps and counts on the way, for its proofs alone.
-pub mod Compared
 pub mod LiveSteps
-pub mod TextLines
 pub mod Outcomes
+pub mod Auditors
+pub mod AuditorLaws

@@ -1,18 +1,14 @@
 -- When the lines of a written run are those of the run of their own answers, and which line is the first that isn't (rule of this project).
 use Rattle.std.specs.Prelude.{◌≡◌, ◌≢◌, ◌⊎◌, ℕ, ◌<◌, ◌≤◌, true, Option, Some, List, [], ◌∷◌, length, map, take, slice_get}
-use Rattle.std.specs.List.{AllByRecursion, flat_map}
+use Rattle.std.specs.List.{flat_map}
 use Rattle.std.specs.Option.{option_map_or}
 use Rattle.cluster_types.specs.declared.cluster.Cluster.{Cluster}
 use Rattle.cluster_types.specs.declared.journal.Answer.{Answer}
 use Rattle.cluster_types.specs.declared.journal.Event.{Event}
 use Rattle.cluster_types.specs.declared.journal.Journal.{Journal}
-use Rattle.cluster_types.specs.declared.placement.NoReason.{NoReason}
-use Rattle.cluster_types.specs.declared.placement.NoReason.TheVariants.{Held}
 use Rattle.cluster_types.specs.declared.run.RunLine.{RunLine}
 use Rattle.cluster_types.specs.declared.run.RunLine.TheVariants as line
 use Rattle.cluster_types.specs.Runs.{RunStanding, due, Runs, IsCutRun, IsWholeRun}
-use Rattle.cluster_types.specs.Texts.{run_line}
-use Rattle.crm_lex.specs.Names.{is_name}
 use Rattle.input_reading.specs.declared.run.text.RunTextLine.{RunTextLine}
 use Rattle.sim_core.specs.declared.verdict.Clause.{Clause}
 use Rattle.sim_core.specs.declared.verdict.Clause.TheVariants as clause
@@ -58,12 +54,10 @@ module _ (c : Cluster) (journal : Journal) (lines : List RunLine) where
     pub behind : Option (List Answer)
     pub runs : Runs c journal.promotions true (due 1 journal.events) (Some (answers_of_lines lines)) printed at behind
 
-  -- they are lawful: their text is that of the whole run of their answers
+  -- they are lawful: they are the lines of the whole run of their answers
   pub record IsLawfulRun : Type 0 where
-    pub printed : List RunLine
     pub left : List Event
-    pub whole : IsWholeRunOfLines printed left
-    pub same : flat_map (run_line c) printed ≡ flat_map (run_line c) lines
+    pub whole : IsWholeRunOfLines lines left
 
   -- the run prints another line at this place than they have there, if any, and up to there the same
   pub record IsOther (place : ℕ) (kind : Clause) : Type 0 where
@@ -73,15 +67,15 @@ module _ (c : Cluster) (journal : Journal) (lines : List RunLine) where
     pub due_there : slice_get printed place ≡ Some due
     pub kind_is : kind ≡ clause_of due
     pub within : place ≤ length lines
-    pub same : map (run_line c) (take place printed) ≡ map (run_line c) (take place lines)
-    pub other : (l : RunLine) → slice_get lines place ≡ Some l → run_line c l ≢ run_line c due
+    pub same : take place printed ≡ take place lines
+    pub different : slice_get lines place ≢ Some due
 
   -- up to this place they have the lines that the run prints, and there it is cut, or it is over and they have one line more
   pub record IsUndue (place : ℕ) : Type 0 where
     pub printed : List RunLine
     pub left : List Event
     pub within : place ≤ length lines
-    pub same : map (run_line c) printed ≡ map (run_line c) (take place lines)
+    pub same : printed ≡ take place lines
     pub ends : (IsWholeRunOfLines printed left × (place < length lines)) ⊎ ((given : Answer) × (behind : Option (List Answer)) × IsCutRunOfLines printed left given behind)
 
   -- the first line that isn't the due one stands at this place, and this kind is due there

@@ -1,6 +1,6 @@
 //! The answers among the lines of a written run.
 
-ghost use Rattle.std.specs.Prelude.{◌≡◌, ◌++◌, OnOk, IfOk};
+ghost use Rattle.std.specs.Prelude.{◌≡◌, ◌≤◌, ◌++◌, length, OnOk, IfOk};
 ghost use Rattle.std.specs.List.{flat_map};
 ghost use Rattle.sim_core.specs.Lawful.{answer_in};
 
@@ -30,8 +30,10 @@ fn add_answers(answers: &mut Vec<Answer>, lines: &[RunTextLine]) -> Result<(), A
 }
 
 /// The answers among these lines, in their order.
+#[tactic(auto, using(crate::proofs::FewLines::few_answers))]
 pub(crate) fn answers_in(alloc: Global, lines: &[RunTextLine]) -> Result<Vec<Answer>, AllocError>
-    ensures { IfOk result (λ answers. answers.items ≡ flat_map (λ l. answer_in l.what) lines.now) }
+    ensures answers { IfOk result (λ answers. answers.items ≡ flat_map (λ l. answer_in l.what) lines.now) }
+    ensures few { IfOk result (λ answers. length answers.items ≤ length lines.now) }
 {
     let mut answers = Vec::new(alloc);
     add_answers(&mut answers, lines)?;

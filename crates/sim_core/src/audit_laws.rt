@@ -1,19 +1,16 @@
 //! What follows from the definitions of `specs/`, for every valid cluster.
 
 ghost use Rattle.std.specs.Prelude.{◌≡◌, ℕ, List};
-ghost use Rattle.std.specs.List.{AllByRecursion};
 ghost use Rattle.cluster_types.specs.declared.cluster.Cluster.{Cluster as ClusterOf};
 ghost use Rattle.cluster_types.specs.declared.journal.Journal.{Journal as JournalOf};
 ghost use Rattle.cluster_types.specs.declared.run.RunLine.{RunLine as LineOf};
-ghost use Rattle.cluster_types.specs.Valid.{IsValid};
-ghost use Rattle.input_reading.specs.Written.{IsLineNamed};
 ghost use Rattle.sim_core.specs.declared.verdict.Clause.{Clause as ClauseOf};
 ghost use Rattle.sim_core.specs.Lawful.{IsFaultyClause, IsLawfulRun};
 
 /// A run with a line that isn't the due one isn't lawful.
 pub fn faulty_runs_are_not_lawful()
     ensures { (c : ClusterOf) (journal : JournalOf) (lines : List LineOf) (place : ℕ) (kind : ClauseOf)
-        → IsValid c → AllByRecursion IsLineNamed lines → IsFaultyClause c journal lines place kind → ¬ IsLawfulRun c journal lines }
+        → IsFaultyClause c journal lines place kind → ¬ IsLawfulRun c journal lines }
 {}
 
 /// A run has at most one first line that isn't the due one.

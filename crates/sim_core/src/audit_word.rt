@@ -1,10 +1,9 @@
 //! The word `audit`: whether a written run is that of its own answers.
 
-ghost use Rattle.std.specs.Prelude.{◌≡◌, ◌<◌, ◌^◌, IfOk};
+ghost use Rattle.std.specs.Prelude.{◌≡◌, ◌+◌, ◌<◌, ◌^◌, IfOk, length};
 ghost use Rattle.cluster_types.specs.Journals.{moment_of};
 ghost use Rattle.cluster_types.specs.Safety.{IsAtRest};
 ghost use Rattle.cluster_types.specs.Valid.{IsValid};
-ghost use Rattle.input_reading.specs.Written.{AreNamed};
 ghost use Rattle.sim_core.specs.Audit.{IsAuditOutput, clause_name, unlawful_text};
 ghost use Rattle.sim_core.specs.Lawful.{Judges};
 
@@ -13,7 +12,7 @@ use crate::status::Status;
 use crate::text_word::refusal_text;
 use crate::{Clause, Verdict, audit};
 use faults::NoMemory;
-use input_reading::{InputFault, Trace, read_trace};
+use input_reading::{Head, InputFault, Trace, read_trace};
 use std::alloc::Global;
 use trace_text::push_number;
 
@@ -47,11 +46,16 @@ fn verdict_of(alloc: Global, trace: Trace) -> Result<Verdict, NoMemory>
     requires valid { IsValid trace.head.cluster }
     requires at_rest { IsAtRest trace.head.journal.events }
     requires moment { moment_of trace.head.journal.events < 2 ^ 40 }
-    requires named { AreNamed trace.run.lines }
+    requires few { length trace.run.lines + 1 < 2 ^ 32 }
     ensures { IfOk result (Judges trace.head.cluster trace.head.journal trace.run.lines trace.after) }
 {
-    let head = &trace.head;
-    audit(alloc, &head.cluster, &head.journal, &trace.run, trace.after)
+    let Trace { head, run, after } = trace;
+    let Head {
+        crm: _,
+        cluster,
+        journal,
+    } = head;
+    audit(alloc, &cluster, journal, &run, after)
 }
 
 /// The word `audit`.
@@ -61,6 +65,7 @@ pub(crate) struct AuditWord;
 impl InputWord for AuditWord {
     ghost gets = { λ _. IsAuditOutput };
 
+    #[tactic(auto, using(crate::proofs::FewLines::few_in_trace))]
     fn answer(&self, alloc: Global, input: Vec<u8>) -> Result<(Status, Vec<u8>), NoMemory> {
         match read_trace(alloc, input) {
             Ok(trace) => match verdict_of(alloc, trace)? {

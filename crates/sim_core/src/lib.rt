@@ -10,20 +10,13 @@
 // What an audit says.
 mod verdict;
 
-// The lines of a written run: their answers, and their text.
+// The answers of a written run.
 mod answers;
-mod text;
 
-// The run of these answers, written into memory.
-mod ended;
-mod replaying;
-
-// The two texts, compared.
-mod comparing;
-mod judging;
-
-// The auditor.
+// The auditor, which follows the run of these answers line by line.
 mod auditing;
+mod auditor;
+mod same_line;
 
 // The top call, and its words.
 mod audit_word;

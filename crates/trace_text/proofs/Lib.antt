@@ -9,3 +9,5 @@ pub mod Places
 pub mod Backward
 pub mod NextGate
 pub mod Told
+-- The next target line.
+pub mod WalkOn

@@ -1,3 +1,4 @@
 pub mod Inner
 pub mod Losses
 pub mod RunLines
+pub mod TargetWalk

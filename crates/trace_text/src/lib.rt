@@ -16,6 +16,7 @@ mod graph_lines;
 mod loss_lines;
 mod score_lines;
 mod target_lines;
+mod target_walk;
 
 // The lines of a run: one by one without memory, and all in a text.
 mod line_buf;
@@ -36,3 +37,4 @@ pub use run_lines::write_line;
 pub use runs::run_text;
 pub use score_lines::{push_decision, push_total, score_text};
 pub use target_lines::push_targets;
+pub use target_walk::{LineColumn, LinePlace, next_target_line};

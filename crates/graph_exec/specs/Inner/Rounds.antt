@@ -6,7 +6,7 @@ use Rattle.cluster_types.specs.declared.journal.Event.{Event}
 use Rattle.cluster_types.specs.declared.run.RunLine.TheVariants as line
 use Rattle.cluster_types.specs.Answering.{most_from_outside}
 use Rattle.cluster_types.specs.Sources.{Says}
-use Rattle.cluster_types.specs.Steps.{IsWaiting, StepsOn, has_begun, has_number_ended, numbers, count_from_outside}
+use Rattle.cluster_types.specs.Steps.{Applies, IsWaiting, StepsOn, answer_events, has_begun, has_number_ended, numbers, count_from_outside}
 use Rattle.cluster_types.specs.Texts.{event_lines}
 use Rattle.graph_exec.specs.declared.transition.ends.WatchedEnd.{WatchedEnd}
 use Rattle.graph_exec.specs.declared.transition.ends.WatchedEnd.TheVariants as how
@@ -33,6 +33,8 @@ pub record Answered (whole : Bool) (old new : Running) (rest left : Option (List
   pub events : List Event
   pub step : StepsOn (going old) whole old.since rest events left
   pub goes_on : new ≡ later old events
+  pub adds : events ≡ answer_events (going old) old.since given
+  pub applies : Applies (going old) old.since given
   pub lines : flat_map event_lines events ≡ line.Taken given ∷ []
   pub fewer : asks_left new < asks_left old
 

@@ -1,6 +1,5 @@
 -- One transition of a replay, and what comes right after it. No public clause cites this module (rule of this project).
 use Rattle.std.specs.Prelude.{◌≡◌, ℕ, ◌+◌, Bool, true, false, Option, Some, Result, Ok, Err, List, [], ◌++◌}
-use Rattle.cluster_io.specs.Streams.{Adds, AddsPrefix}
 use Rattle.cluster_types.specs.declared.cluster.Cluster.{Cluster}
 use Rattle.cluster_types.specs.declared.journal.Answer.{Answer}
 use Rattle.cluster_types.specs.declared.journal.Event.{Event}
@@ -18,7 +17,7 @@ use Rattle.graph_exec.specs.Logs.{JournalOf}
 use Rattle.graph_exec.specs.Promises.{IsGraphPlanned}
 use Rattle.graph_exec.specs.Running.{Running}
 use Rattle.graph_exec.specs.Saying.{TakesAnswers}
-use Rattle.graph_exec.specs.Telling.{ReasonsHaveNames, text_of}
+use Rattle.graph_exec.specs.Telling.{ReasonsHaveNames, StopsAmong}
 use Rattle.graph_exec.specs.declared.run.planning.KeptPlan.{KeptPlan}
 use Rattle.graph_exec.specs.declared.run.planning.Planned.{Planned}
 use Rattle.graph_exec.specs.declared.run.stop.ReplayStop.{ReplayStop}
@@ -46,12 +45,12 @@ pub record IsSaid (s : Setting) (from at : RunStanding) (lines : List RunLine) (
   pub runs : (more : List Answer) → Runs s.cluster s.promotions false from (Some (answers ++ more)) lines at (Some more)
   pub taken : TakesAnswers rest answers left
 
-module _ (s : Setting) (from : RunStanding) (old new : Sight) where
+module _ (Follows : List RunLine → Type 0) (s : Setting) (from : RunStanding) (old new : Sight) where
   -- the run went on to here, and its lines were told. While a steady source isn't over, each of its answers was said
   pub record HasComeTo (at : RunStanding) : Type 0 where
     pub lines : List RunLine
     pub runs : Runs s.cluster s.promotions s.whole from old.rest lines at new.rest
-    pub told : Adds old.text (text_of s.names lines) new.text
+    pub told : Follows lines
     pub said : s.steady ≡ true → new.over ≡ false → IsSaid s from at lines old.rest new.rest
 
   -- the same, where the journal is kept with what it tells
@@ -64,7 +63,7 @@ module _ (s : Setting) (from : RunStanding) (old new : Sight) where
     pub last : RunStanding
     pub lines : List RunLine
     pub runs : Runs s.cluster s.promotions s.whole from old.rest lines last new.rest
-    pub told : Adds old.text (text_of s.names lines) new.text
+    pub told : Follows lines
     pub over : IsOver s.cluster s.promotions s.whole last new.rest
     pub leaves : journal ≡ journal_back s last
 
@@ -73,7 +72,7 @@ module _ (s : Setting) (from : RunStanding) (old new : Sight) where
     pub unread : Option (List Answer)
     pub lines : List RunLine
     pub runs : Runs s.cluster s.promotions s.whole from old.rest lines last unread
-    pub told : Adds old.text (text_of s.names lines) new.text
+    pub told : Follows lines
     pub cut : IsCutAt s.cluster s.promotions s.whole last unread given new.rest
     pub leaves : journal ≡ journal_back s last
 
@@ -81,40 +80,38 @@ module _ (s : Setting) (from : RunStanding) (old new : Sight) where
     pub last : RunStanding
     pub lines : List RunLine
     pub runs : Runs s.cluster s.promotions s.whole from old.rest lines last new.rest
-    pub told : Adds old.text (text_of s.names lines) new.text
+    pub told : Follows lines
     pub asking : IsAsking s.cluster s.promotions s.whole last
     pub said : s.steady ≡ true → IsSaid s from last lines old.rest new.rest
     pub not_over : s.steady ≡ true → old.over ≡ false
     pub leaves : journal ≡ journal_back s last
 
-  pub record EndsStopped (journal : Journal) : Type 0 where
+  pub record EndsStopped (Stopped : List RunLine → RunLine → Type 0) (journal : Journal) : Type 0 where
     pub before : RunStanding
     pub next : RunStanding
     pub middle : Option (List Answer)
-    pub text : Option (List ℕ)
     pub lines : List RunLine
     pub call : List RunLine
     pub runs : Runs s.cluster s.promotions s.whole from old.rest lines before middle
-    pub told : Adds old.text (text_of s.names lines) text
-    pub stopped : RunsOn s.cluster s.promotions s.whole before middle call next new.rest
-    pub front : AddsPrefix (text_of s.names call) text new.text
+    pub step : RunsOn s.cluster s.promotions s.whole before middle call next new.rest
+    pub told : StopsAmong (λ passed at. Stopped (lines ++ passed) at) call
     pub leaves : journal ≡ journal_back s next
 
   pub record RunEndsBetween : Type 0 where
     pub at : RunStanding
     pub lines : List RunLine
     pub runs : Runs s.cluster s.promotions s.whole from old.rest lines at new.rest
-    pub told : Adds old.text (text_of s.names lines) new.text
+    pub told : Follows lines
     pub between : IsBetween s.cluster s.promotions s.whole at
 
   -- how it ended on the way
-  abbrev pub RunEndsAs : Result Journal ReplayStop → Type 0
-  RunEndsAs (Ok journal) = EndsWhole journal
-  RunEndsAs (Err (stop.Unexpected journal given)) = RunEndsCut journal given
-  RunEndsAs (Err (stop.SourceFault journal)) = EndsBroken journal
-  RunEndsAs (Err (stop.Stopped journal)) = EndsStopped journal
-  RunEndsAs (Err (stop.Most journal)) = ⊥
-  RunEndsAs (Err stop.NoMemory) = RunEndsBetween
+  abbrev pub RunEndsAs : (List RunLine → RunLine → Type 0) → Result Journal ReplayStop → Type 0
+  RunEndsAs Stopped (Ok journal) = EndsWhole journal
+  RunEndsAs Stopped (Err (stop.Unexpected journal given)) = RunEndsCut journal given
+  RunEndsAs Stopped (Err (stop.SourceFault journal)) = EndsBroken journal
+  RunEndsAs Stopped (Err (stop.Stopped journal)) = EndsStopped Stopped journal
+  RunEndsAs Stopped (Err (stop.Most journal)) = ⊥
+  RunEndsAs Stopped (Err stop.NoMemory) = RunEndsBetween
 
 -- nothing of the graph has begun
 abbrev pub fresh_on : JournalOf → GraphOf → Running

@@ -5,7 +5,8 @@ ghost use Rattle.cluster_types.specs.Runs.{amid};
 ghost use Rattle.cluster_types.specs.Safety.{IsAtRest};
 ghost use Rattle.graph_exec.specs.Lasting.{SourceLasts, WatcherLasts};
 ghost use Rattle.graph_exec.specs.Running.{going};
-ghost use Rattle.graph_exec.specs.Replays.{AgreesWith, IsReplayExpected, IsShownJournal, OfJournal, WritesNamesOf, setting, sight};
+ghost use Rattle.graph_exec.specs.Replays.{AgreesWith, IsReplayExpected, IsShownEnd, OfJournal, setting, sight};
+ghost use Rattle.graph_exec.specs.Telling.{view_amid, view_between};
 ghost use Rattle.graph_exec.specs.Inner.Turns.{CameTo, RunEndsAs, HasPlannedGraph, closed_at, part_heard, part_word};
 
 use crate::run::stop::{Ended, ReplayStop};
@@ -30,20 +31,20 @@ pub(crate) fn carry_out<'c, S: Outcomes, V: Watcher>(
 ) -> Result<Closed<'c>, Ended>
     requires fresh { executor.since ≡ [] }
     requires planned { HasPlannedGraph executor }
-    requires names { WritesNamesOf executor.cluster (V.names watcher.old) }
-    ensures closes { IfOk result (λ closed. CameTo
-        (setting executor.entry.cluster executor.entry.promotions (S.whole outcomes.old) (S.steady outcomes.old) (V.names watcher.old))
+    ensures closes { IfOk result (λ closed. CameTo (V.follows watcher.old watcher.new)
+        (setting executor.entry.cluster executor.entry.promotions (S.whole outcomes.old) (S.steady outcomes.old))
         (amid number (going executor.entry) [])
-        (sight (S.rest outcomes.old) (S.over outcomes.old) (V.told watcher.old))
-        (sight (S.rest outcomes.new) (S.over outcomes.new) (V.told watcher.new))
+        (sight (S.rest outcomes.old) (S.over outcomes.old))
+        (sight (S.rest outcomes.new) (S.over outcomes.new))
         (closed_at number closed.complete) closed.journal) }
     ensures at_rest { IfOk result (λ closed. IsAtRest closed.journal.events) }
     ensures graph { IfOk result (λ closed. closed.graph ≡ executor.entry.graph) }
-    ensures ends { IfErr result (RunEndsAs
-        (setting executor.entry.cluster executor.entry.promotions (S.whole outcomes.old) (S.steady outcomes.old) (V.names watcher.old))
+    ensures ends { IfErr result (RunEndsAs (V.follows watcher.old watcher.new)
+        (setting executor.entry.cluster executor.entry.promotions (S.whole outcomes.old) (S.steady outcomes.old))
         (amid number (going executor.entry) [])
-        (sight (S.rest outcomes.old) (S.over outcomes.old) (V.told watcher.old))
-        (sight (S.rest outcomes.new) (S.over outcomes.new) (V.told watcher.new))) }
+        (sight (S.rest outcomes.old) (S.over outcomes.old))
+        (sight (S.rest outcomes.new) (S.over outcomes.new))
+        (V.stopped watcher.old watcher.new)) }
 
     ensures agrees { S.agrees outcomes.old executor.entry.cluster executor.entry.planned_at 0
         → IfOk result (λ closed. S.agrees outcomes.new executor.entry.cluster closed.journal.events 0) }
@@ -53,9 +54,12 @@ pub(crate) fn carry_out<'c, S: Outcomes, V: Watcher>(
 
     ensures source { SourceLasts S.Outcomes outcomes.old outcomes.new (part_word result) }
     ensures watcher { WatcherLasts V.Watcher watcher.old watcher.new (part_heard result) }
-    ensures shown { V.shown watcher.old executor.entry.cluster executor.entry.planned_at → IfOk result (λ closed. V.shown watcher.new executor.entry.cluster closed.journal.events) }
-    ensures shown_at_end { part_heard result ≡ Heard.Go → V.shown watcher.old executor.entry.cluster executor.entry.planned_at
-        → IfErr result (OfJournal (IsShownJournal (V.shown watcher.new) executor.entry.cluster)) }
+    ensures shown { V.shown watcher.old Heard.Go
+        (view_amid executor.entry.cluster executor.entry.promotions executor.entry.graph.actions executor.entry.planned_at)
+        → IfOk result (λ closed. V.shown watcher.new Heard.Go (view_between executor.entry.cluster executor.entry.promotions closed.journal.events)) }
+    ensures shown_at_end { V.shown watcher.old Heard.Go
+        (view_amid executor.entry.cluster executor.entry.promotions executor.entry.graph.actions executor.entry.planned_at)
+        → IfErr result (IsShownEnd (V.shown watcher.new) executor.entry.cluster executor.entry.promotions) }
 {
     match run_watched(&mut executor, outcomes, watcher) {
         WatchedEnd::Complete => match watcher.closed(number, true) {

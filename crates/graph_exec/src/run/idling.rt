@@ -5,7 +5,8 @@ ghost use Rattle.cluster_types.specs.Journals.{in_flight_by_begin};
 ghost use Rattle.cluster_types.specs.Runs.{due, idle};
 ghost use Rattle.graph_exec.specs.Inner.Keeping.{IsAnswered, IsUnanswered, idle_word, watched_end};
 ghost use Rattle.graph_exec.specs.Lasting.{SourceLasts, WatcherLasts};
-ghost use Rattle.graph_exec.specs.Replays.{AgreesWith, IsReplayExpected, IsShownJournal, OfJournal, setting, sight};
+ghost use Rattle.graph_exec.specs.Replays.{AgreesWith, IsReplayExpected, IsShownEnd, OfJournal, setting, sight};
+ghost use Rattle.graph_exec.specs.Telling.{view_between};
 ghost use Rattle.graph_exec.specs.Inner.Turns.{CameTo, RunEndsAs, part_heard, part_word};
 
 use crate::run::run_ending::RunEnd;
@@ -71,17 +72,18 @@ pub(crate) fn take_idle<'c, S: Outcomes, V: Watcher>(
     number: u32,
 ) -> Result<KnownJournal<'c>, Ended>
     requires resting { in_flight_by_begin journal.events ≡ [] }
-    ensures goes_on { IfOk result (CameTo
-        (setting journal.entry.cluster journal.entry.promotions (S.whole outcomes.old) (S.steady outcomes.old) (V.names watcher.old))
+    ensures goes_on { IfOk result (CameTo (V.follows watcher.old watcher.new)
+        (setting journal.entry.cluster journal.entry.promotions (S.whole outcomes.old) (S.steady outcomes.old))
         (idle number journal.entry.events)
-        (sight (S.rest outcomes.old) (S.over outcomes.old) (V.told watcher.old))
-        (sight (S.rest outcomes.new) (S.over outcomes.new) (V.told watcher.new))
+        (sight (S.rest outcomes.old) (S.over outcomes.old))
+        (sight (S.rest outcomes.new) (S.over outcomes.new))
         (due (number + 1))) }
-    ensures ends { IfErr result (RunEndsAs
-        (setting journal.entry.cluster journal.entry.promotions (S.whole outcomes.old) (S.steady outcomes.old) (V.names watcher.old))
+    ensures ends { IfErr result (RunEndsAs (V.follows watcher.old watcher.new)
+        (setting journal.entry.cluster journal.entry.promotions (S.whole outcomes.old) (S.steady outcomes.old))
         (idle number journal.entry.events)
-        (sight (S.rest outcomes.old) (S.over outcomes.old) (V.told watcher.old))
-        (sight (S.rest outcomes.new) (S.over outcomes.new) (V.told watcher.new))) }
+        (sight (S.rest outcomes.old) (S.over outcomes.old))
+        (sight (S.rest outcomes.new) (S.over outcomes.new))
+        (V.stopped watcher.old watcher.new)) }
 
     ensures agrees { S.agrees outcomes.old journal.entry.cluster journal.entry.events 0
         → IfOk result (λ later. S.agrees outcomes.new journal.entry.cluster later.events 0) }
@@ -91,9 +93,10 @@ pub(crate) fn take_idle<'c, S: Outcomes, V: Watcher>(
 
     ensures source { SourceLasts S.Outcomes outcomes.old outcomes.new (part_word result) }
     ensures watcher { WatcherLasts V.Watcher watcher.old watcher.new (part_heard result) }
-    ensures shown { V.shown watcher.old journal.entry.cluster journal.entry.events → IfOk result (λ later. V.shown watcher.new journal.entry.cluster later.events) }
-    ensures shown_at_end { part_heard result ≡ Heard.Go → V.shown watcher.old journal.entry.cluster journal.entry.events
-        → IfErr result (OfJournal (IsShownJournal (V.shown watcher.new) journal.entry.cluster)) }
+    ensures shown { V.shown watcher.old Heard.Go (view_between journal.entry.cluster journal.entry.promotions journal.entry.events)
+        → IfOk result (λ later. V.shown watcher.new Heard.Go (view_between journal.entry.cluster journal.entry.promotions later.events)) }
+    ensures shown_at_end { V.shown watcher.old Heard.Go (view_between journal.entry.cluster journal.entry.promotions journal.entry.events)
+        → IfErr result (IsShownEnd (V.shown watcher.new) journal.entry.cluster journal.entry.promotions) }
 {
     match ask_idle(alloc, journal, outcomes) {
         Ok(taken) => match watcher.taken(taken.answer) {

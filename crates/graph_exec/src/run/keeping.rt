@@ -90,14 +90,14 @@ pub(crate) fn keep_transition<'c, S: Outcomes>(
     requires valid { IsValid journal.cluster }
     requires at_rest { IsAtRest journal.events }
     ensures goes_on { (es : List EventOf) (first : Option (List AnswerOf))
-        → KeepsTo (setting journal.entry.cluster journal.entry.promotions (S.whole outcomes.old) (S.steady outcomes.old) None) es first
+        → KeepsTo (setting journal.entry.cluster journal.entry.promotions (S.whole outcomes.old) (S.steady outcomes.old)) es first
         (S.rest outcomes.old) (S.over outcomes.old) passed.old journal.entry
-        → IfOk result (KeepsTo (setting journal.entry.cluster journal.entry.promotions (S.whole outcomes.old) (S.steady outcomes.old) None) es first
+        → IfOk result (KeepsTo (setting journal.entry.cluster journal.entry.promotions (S.whole outcomes.old) (S.steady outcomes.old)) es first
         (S.rest outcomes.new) (S.over outcomes.new) passed.new) }
     ensures ends { (es : List EventOf) (first : Option (List AnswerOf))
-        → KeepsTo (setting journal.entry.cluster journal.entry.promotions (S.whole outcomes.old) (S.steady outcomes.old) None) es first
+        → KeepsTo (setting journal.entry.cluster journal.entry.promotions (S.whole outcomes.old) (S.steady outcomes.old)) es first
         (S.rest outcomes.old) (S.over outcomes.old) passed.old journal.entry
-        → IfErr result (KeepsEnd (setting journal.entry.cluster journal.entry.promotions (S.whole outcomes.old) (S.steady outcomes.old) None) es first
+        → IfErr result (KeepsEnd (setting journal.entry.cluster journal.entry.promotions (S.whole outcomes.old) (S.steady outcomes.old)) es first
         (S.rest outcomes.new) passed.new) }
     ensures stays { IfOk result (StaysOf journal.entry) }
     ensures one_more { IfOk result (λ _. length passed.new ≡ length passed.old + 1) }

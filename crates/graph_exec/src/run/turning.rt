@@ -6,7 +6,8 @@ ghost use Rattle.cluster_types.specs.Safety.{IsAtRest};
 ghost use Rattle.cluster_types.specs.Valid.{IsValid};
 ghost use Rattle.graph_exec.specs.declared.run.stop.ReplayStop.TheVariants.{Stopped};
 ghost use Rattle.graph_exec.specs.Lasting.{SourceLasts, WatcherLasts};
-ghost use Rattle.graph_exec.specs.Replays.{AgreesWith, IsReplayExpected, IsShownJournal, OfJournal, WritesNamesOf, setting, sight};
+ghost use Rattle.graph_exec.specs.Replays.{AgreesWith, IsReplayExpected, IsShownEnd, OfJournal, setting, sight};
+ghost use Rattle.graph_exec.specs.Telling.{view_between};
 ghost use Rattle.graph_exec.specs.Inner.Turns.{CameTo, RunEndsAs, Serves, left_of, part_heard, part_word};
 
 use crate::run::carrying_out::carry_out;
@@ -44,19 +45,20 @@ pub(crate) fn make_transition<'c, S: Outcomes, V: Watcher>(
     requires valid { IsValid journal.cluster }
     requires at_rest { IsAtRest journal.events }
     requires last { IfSome last (Serves journal.cluster) }
-    requires names { WritesNamesOf journal.cluster (V.names watcher.old) }
-    ensures goes_on { IfOk result (λ turn. CameTo
-        (setting journal.entry.cluster journal.entry.promotions (S.whole outcomes.old) (S.steady outcomes.old) (V.names watcher.old))
+    requires lines { V.is_of watcher.old journal.cluster }
+    ensures goes_on { IfOk result (λ turn. CameTo (V.follows watcher.old watcher.new)
+        (setting journal.entry.cluster journal.entry.promotions (S.whole outcomes.old) (S.steady outcomes.old))
         (due number journal.entry.events)
-        (sight (S.rest outcomes.old) (S.over outcomes.old) (V.told watcher.old))
-        (sight (S.rest outcomes.new) (S.over outcomes.new) (V.told watcher.new))
+        (sight (S.rest outcomes.old) (S.over outcomes.old))
+        (sight (S.rest outcomes.new) (S.over outcomes.new))
         (due (number + 1)) turn.journal) }
     ensures serves { IfOk result (λ turn. Serves journal.entry.cluster turn.plan) }
-    ensures ends { IfErr result (RunEndsAs
-        (setting journal.entry.cluster journal.entry.promotions (S.whole outcomes.old) (S.steady outcomes.old) (V.names watcher.old))
+    ensures ends { IfErr result (RunEndsAs (V.follows watcher.old watcher.new)
+        (setting journal.entry.cluster journal.entry.promotions (S.whole outcomes.old) (S.steady outcomes.old))
         (due number journal.entry.events)
-        (sight (S.rest outcomes.old) (S.over outcomes.old) (V.told watcher.old))
-        (sight (S.rest outcomes.new) (S.over outcomes.new) (V.told watcher.new))) }
+        (sight (S.rest outcomes.old) (S.over outcomes.old))
+        (sight (S.rest outcomes.new) (S.over outcomes.new))
+        (V.stopped watcher.old watcher.new)) }
 
     ensures agrees { S.agrees outcomes.old journal.entry.cluster journal.entry.events 0
         → IfOk result (λ turn. S.agrees outcomes.new journal.entry.cluster turn.journal.events 0) }
@@ -66,9 +68,10 @@ pub(crate) fn make_transition<'c, S: Outcomes, V: Watcher>(
 
     ensures source { SourceLasts S.Outcomes outcomes.old outcomes.new (part_word result) }
     ensures watcher { WatcherLasts V.Watcher watcher.old watcher.new (part_heard result) }
-    ensures shown { V.shown watcher.old journal.entry.cluster journal.entry.events → IfOk result (λ turn. V.shown watcher.new journal.entry.cluster turn.journal.events) }
-    ensures shown_at_end { part_heard result ≡ Heard.Go → V.shown watcher.old journal.entry.cluster journal.entry.events
-        → IfErr result (OfJournal (IsShownJournal (V.shown watcher.new) journal.entry.cluster)) }
+    ensures shown { V.shown watcher.old Heard.Go (view_between journal.entry.cluster journal.entry.promotions journal.entry.events)
+        → IfOk result (λ turn. V.shown watcher.new Heard.Go (view_between journal.entry.cluster journal.entry.promotions turn.journal.events)) }
+    ensures shown_at_end { V.shown watcher.old Heard.Go (view_between journal.entry.cluster journal.entry.promotions journal.entry.events)
+        → IfErr result (IsShownEnd (V.shown watcher.new) journal.entry.cluster journal.entry.promotions) }
 {
     let Ok((states, planned)) = plan_next(alloc, journal, last) else {
         return Err(Err(ReplayStop::NoMemory));

@@ -5,7 +5,8 @@ ghost use Rattle.cluster_types.specs.Journals.{moment_of};
 ghost use Rattle.cluster_types.specs.Safety.{IsAtRest, IsSafeRun};
 ghost use Rattle.cluster_types.specs.Valid.{IsValid};
 ghost use Rattle.graph_exec.specs.Lasting.{SourceLasts, WatcherLasts};
-ghost use Rattle.graph_exec.specs.Replays.{AgreesWith, IsReplayExpected, IsJournalKept, IsShownJournal, OfJournal, ReplaysAs, WritesNamesOf, replay_heard, replay_word, setting, sight};
+ghost use Rattle.graph_exec.specs.Telling.{view_between};
+ghost use Rattle.graph_exec.specs.Replays.{AgreesWith, IsReplayExpected, IsJournalKept, IsShownEnd, OfJournal, ReplaysAs, replay_heard, replay_word, setting, sight};
 
 use crate::run::stop::ReplayStop;
 use crate::run::turning::make_transition;
@@ -23,7 +24,7 @@ use std::alloc::Global;
 /// read once.
 ///
 /// It asks for a valid cluster, for a journal in order with nothing in flight, as a status gives it, for a moment in seconds
-/// that fits 64 bits, and for a watcher that writes by the names of this cluster, if by any.
+/// that fits 64 bits, and for a watcher of the lines of this cluster.
 pub fn replay_watched<S: Outcomes, V: Watcher>(
     alloc: Global,
     cluster: &Cluster,
@@ -35,13 +36,13 @@ pub fn replay_watched<S: Outcomes, V: Watcher>(
     requires valid { IsValid cluster.now }
     requires at_rest { IsAtRest journal.events }
     requires moment { moment_of journal.events < 2 ^ 64 }
-    requires names { WritesNamesOf cluster.now (V.names watcher.old) }
+    requires lines { V.is_of watcher.old cluster.now }
 
     // Which run was made, and how far; and what the watcher was told of it.
-    ensures run { ReplaysAs
-        (setting cluster.now journal.promotions (S.whole outcomes.old) (S.steady outcomes.old) (V.names watcher.old)) journal.events
-        (sight (S.rest outcomes.old) (S.over outcomes.old) (V.told watcher.old))
-        (sight (S.rest outcomes.new) (S.over outcomes.new) (V.told watcher.new)) most result }
+    ensures run { ReplaysAs (V.follows watcher.old watcher.new) (V.stopped watcher.old watcher.new)
+        (setting cluster.now journal.promotions (S.whole outcomes.old) (S.steady outcomes.old)) journal.events
+        (sight (S.rest outcomes.old) (S.over outcomes.old))
+        (sight (S.rest outcomes.new) (S.over outcomes.new)) most result }
     ensures safe { IsSafeRun cluster.now journal.promotions (S.whole outcomes.old) journal.events (S.rest outcomes.old) }
     ensures kept { OfJournal (IsJournalKept journal.promotions) result }
 
@@ -52,8 +53,8 @@ pub fn replay_watched<S: Outcomes, V: Watcher>(
 
     // What became of the watcher.
     ensures watcher { WatcherLasts V.Watcher watcher.old watcher.new (replay_heard result) }
-    ensures shown { replay_heard result ≡ Heard.Go → V.shown watcher.old cluster.now journal.events
-        → OfJournal (IsShownJournal (V.shown watcher.new) cluster.now) result }
+    ensures shown { V.shown watcher.old Heard.Go (view_between cluster.now journal.promotions journal.events)
+        → IsShownEnd (V.shown watcher.new) cluster.now journal.promotions result }
 {
     valid_clusters_have_few_monitors();
     let Ok(mut known) = KnownJournal::new(alloc, cluster, journal) else {

@@ -34,10 +34,10 @@ pub fn run_watched<S: Outcomes, V: Watcher>(
     ensures fitting { S.careful outcomes.old ≡ true → Accords (S.agrees outcomes.old) executor.old → IsExpected result }
 
     // What the watcher was told.
-    ensures told { Hears (S.whole outcomes.old) (V.names watcher.old) executor.old executor.new (S.rest outcomes.old) (S.rest outcomes.new)
-        (V.told watcher.old) (V.told watcher.new) (heard_at result) }
+    ensures told { Hears (V.follows watcher.old watcher.new) (V.stopped watcher.old watcher.new) (S.whole outcomes.old) executor.old executor.new
+        (S.rest outcomes.old) (S.rest outcomes.new) (heard_at result) }
     ensures watcher { WatcherLasts V.Watcher watcher.old watcher.new (heard_at result) }
-    ensures shown { heard_at result ≡ Heard.Go → IsShownAll (V.shown watcher.old) executor.old → IsShownAll (V.shown watcher.new) executor.new }
+    ensures shown { IsShownAll (V.shown watcher.old Heard.Go) executor.old → IsShownAll (V.shown watcher.new (heard_at result)) executor.new }
 {
     loop {
         if let Heard::Stop = executor.begin_all(outcomes, watcher) {

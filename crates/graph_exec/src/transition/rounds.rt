@@ -33,10 +33,10 @@ impl<'c> Executor<'c> {
         ensures asked { S.asked outcomes.new ≡ S.asked outcomes.old }
         ensures agrees { Accords (S.agrees outcomes.old) self.old → Accords (S.agrees outcomes.new) self.new }
 
-        ensures told { Hears (S.whole outcomes.old) (V.names watcher.old) self.old self.new (S.rest outcomes.old) (S.rest outcomes.new)
-            (V.told watcher.old) (V.told watcher.new) (unwrap_or result Heard.Go) }
+        ensures told { Hears (V.follows watcher.old watcher.new) (V.stopped watcher.old watcher.new) (S.whole outcomes.old) self.old self.new
+            (S.rest outcomes.old) (S.rest outcomes.new) (unwrap_or result Heard.Go) }
         ensures watcher { WatcherLasts V.Watcher watcher.old watcher.new (unwrap_or result Heard.Go) }
-        ensures shown { unwrap_or result Heard.Go ≡ Heard.Go → IsShownAll (V.shown watcher.old) self.old → IsShownAll (V.shown watcher.new) self.new }
+        ensures shown { IsShownAll (V.shown watcher.old Heard.Go) self.old → IsShownAll (V.shown watcher.new (unwrap_or result Heard.Go)) self.new }
     {
         let Some(number) = self.begin_next() else {
             return None;
@@ -62,10 +62,10 @@ impl<'c> Executor<'c> {
         ensures asked { S.asked outcomes.new ≡ S.asked outcomes.old }
         ensures agrees { Accords (S.agrees outcomes.old) self.old → Accords (S.agrees outcomes.new) self.new }
 
-        ensures told { Hears (S.whole outcomes.old) (V.names watcher.old) self.old self.new (S.rest outcomes.old) (S.rest outcomes.new)
-            (V.told watcher.old) (V.told watcher.new) result }
+        ensures told { Hears (V.follows watcher.old watcher.new) (V.stopped watcher.old watcher.new) (S.whole outcomes.old) self.old self.new
+            (S.rest outcomes.old) (S.rest outcomes.new) result }
         ensures watcher { WatcherLasts V.Watcher watcher.old watcher.new result }
-        ensures shown { result ≡ Heard.Go → IsShownAll (V.shown watcher.old) self.old → IsShownAll (V.shown watcher.new) self.new }
+        ensures shown { IsShownAll (V.shown watcher.old Heard.Go) self.old → IsShownAll (V.shown watcher.new result) self.new }
     {
         loop {
             match self.begin_one(outcomes, watcher) {
@@ -109,7 +109,8 @@ impl<'c> Executor<'c> {
         outcomes: &mut S,
         watcher: &mut V,
     ) -> Option<WatchedEnd>
-        requires { IsWaiting (going self.old) self.old.since }
+        requires waiting { IsWaiting (going self.old) self.old.since }
+        requires under_way { IsUnderWay self.old }
         ensures on { IfNone result (Advanced (S.whole outcomes.old) self.old self.new (S.rest outcomes.old) (S.rest outcomes.new)) }
         ensures steps { IfSome result (GoneTo (S.whole outcomes.old) self.old self.new (S.rest outcomes.old) (S.rest outcomes.new)) }
         ensures end { IfSome result (EndsAs self.new) }
@@ -126,10 +127,10 @@ impl<'c> Executor<'c> {
         ensures unread { result ≡ Some WatchedEnd.SourceFault → S.rest outcomes.new ≡ S.rest outcomes.old }
         ensures fitting { S.careful outcomes.old ≡ true → Accords (S.agrees outcomes.old) self.old → IfSome result IsExpected }
 
-        ensures told { Hears (S.whole outcomes.old) (V.names watcher.old) self.old self.new (S.rest outcomes.old) (S.rest outcomes.new)
-            (V.told watcher.old) (V.told watcher.new) (heard_in result) }
+        ensures told { Hears (V.follows watcher.old watcher.new) (V.stopped watcher.old watcher.new) (S.whole outcomes.old) self.old self.new
+            (S.rest outcomes.old) (S.rest outcomes.new) (heard_in result) }
         ensures watcher { WatcherLasts V.Watcher watcher.old watcher.new (heard_in result) }
-        ensures shown { heard_in result ≡ Heard.Go → IsShownAll (V.shown watcher.old) self.old → IsShownAll (V.shown watcher.new) self.new }
+        ensures shown { IsShownAll (V.shown watcher.old Heard.Go) self.old → IsShownAll (V.shown watcher.new (heard_in result)) self.new }
     {
         match self.ask(outcomes) {
             Ok(answer) => match watcher.taken(answer) {

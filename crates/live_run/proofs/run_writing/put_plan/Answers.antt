@@ -1,24 +1,44 @@
-use Rattle.std.specs.List.{flat_map}
+use Rattle.std.proofs.Common.{arith, ◌∷◌, List, refl, sym, ap, ◌∙◌}
 use Rattle.std.proofs.lemmas.Result.{err_from_is_err_and}
+use Rattle.cluster_types.specs.declared.run.RunLine.{RunLine}
 use Rattle.cluster_types.specs.declared.run.RunLine.TheVariants as line
-use Rattle.cluster_types.specs.Tables.{targets_of}
-use Rattle.cluster_types.specs.Texts.{run_line, target_lines}
-use Rattle.live_run.proofs.Written.{prefix_first, puts_then}
+use Rattle.graph_exec.specs.Telling.{plan_lines}
+use Rattle.trace_text.specs.RunLines.{lent_line}
+use Rattle.trace_text.specs.TargetWalk.{lines_from}
+use Rattle.trace_text.proofs.WalkOn.{lines_first}
+use Rattle.live_run.proofs.Written.{failed_first, put_all, put_first, put_more}
 use Rattle.live_run.proofs.run_writing.put_plan.Goals as goal
 
-pub returns-in_err-put-clause-text : goal.returns-in_err-put-clause-text
-returns-in_err-put-clause-text g c =
-    let cl = c.args.cluster.now in
-    let placed = c.args.placed.now in
+pub returns-in_err-put-clause-lines : goal.returns-in_err-put-clause-lines
+returns-in_err-put-clause-lines g c =
     let p = err_from_is_err_and c.from_residual.result c.from_residual.ensures.1 in
     rw p.1
-    (prefix_first (run_line cl (line.Transition c.args.transition)) (flat_map (run_line cl) (target_lines cl placed.pins (targets_of placed.table) placed.none))
-    (g.W.Sink.written c.args.sink.now) (g.W.Sink.written c.put.new.sink) c.in_err-put.ensures.text)
+    (failed_first c.args.cluster.now (g.W.Sink.written c.args.sink.now) (g.W.Sink.written c.put.new.sink) (plan_lines c.args.cluster.now c.args.transition c.args.placed.now)
+    (line.Transition c.args.transition) _ refl c.in_err-put.ensures.text)
 
-pub returns-clause-text : goal.returns-clause-text
-returns-clause-text g c =
-    let cl = c.args.cluster.now in
-    let placed = c.args.placed.now in
-    puts_then c.put_targets.result (run_line cl (line.Transition c.args.transition))
-    (flat_map (run_line cl) (target_lines cl placed.pins (targets_of placed.table) placed.none)) (g.W.Sink.written c.args.sink.now) (g.W.Sink.written c.put.new.sink)
-    (g.W.Sink.written c.put_targets.new.sink) c.in_ok-put.ensures.text c.put_targets.ensures.text
+pub loop-line-init : goal.loop-line-init
+loop-line-init g c = record {
+  put = put_first c.args.cluster.now (g.W.Sink.written c.args.sink.now) (g.W.Sink.written c.put.new.sink) (plan_lines c.args.cluster.now c.args.transition c.args.placed.now)
+      (line.Transition c.args.transition) _
+      (ap (λ (ls : List RunLine). line.Transition c.args.transition ∷ ls) (sym (lines_first c.args.cluster.now c.args.placed.now))) c.in_ok-put.ensures.text;
+  count = c.put.ensures.bears.count;
+  no_failure = λ exact. c.in_ok-put.ensures.bears.no_failure exact (λ failed. cc);
+}
+
+pub loop-line-preserved : goal.loop-line-preserved
+loop-line-preserved g c =
+    let before = c.loop-line.invariant.count in
+    let now = c.put-in-Some.ensures.bears.count in
+    record {
+      put = put_more c.args.cluster.now (g.W.Sink.written c.args.sink.now) (g.W.Sink.written c.put-in-Some.new.sink)
+          (plan_lines c.args.cluster.now c.args.transition c.args.placed.now) (g.W.Sink.written c.loop-line.sink)
+          (lines_from c.args.cluster.now c.args.placed.now c.loop-line.place) (lines_from c.args.cluster.now c.args.placed.now c.next_target_line.new.place)
+          (lent_line c.in-Some.line) c.in-Some.ensures.line c.in_ok-put-2.ensures.text c.loop-line.invariant.put;
+      count = omega (arith, before, now);
+      no_failure = λ exact. c.in_ok-put-2.ensures.bears.no_failure exact (λ failed. cc) ∙ c.loop-line.invariant.no_failure exact;
+    }
+
+pub returns-clause-lines : goal.returns-clause-lines
+returns-clause-lines g c =
+    put_all c.args.cluster.now (g.W.Sink.written c.args.sink.now) (g.W.Sink.written c.loop-line.sink) (plan_lines c.args.cluster.now c.args.transition c.args.placed.now)
+    (lines_from c.args.cluster.now c.args.placed.now c.loop-line.place) c.in_default.ensures.line c.loop-line.invariant.put

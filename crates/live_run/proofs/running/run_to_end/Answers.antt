@@ -1,6 +1,6 @@
 use Rattle.std.proofs.Common.{ap}
 use Rattle.live_run.specs.Courses.{SourceState, has_course_ended, is_reading}
-use Rattle.live_run.specs.LineSources.{outcomes_source, standing_of, view_of}
+use Rattle.live_run.specs.LineSources.{outcomes_source, standing_of, outcomes_view}
 use Rattle.live_run.specs.LineWriters.{writer_cluster, sink_of}
 use Rattle.live_run.proofs.Reaching.{between_from, cut_off_from, done_from, failed_from, failed_kind, most_from, unexpected_from}
 use Rattle.live_run.proofs.running.run_to_end.Goals as goal
@@ -11,7 +11,7 @@ returns-in-Ok-clause-reaches g c =
     (standing_of c.replay_watched.new.outcomes) (writer_cluster c.args.writer.now) c.requires.fresh c.requires.names (g.S.Source.left (outcomes_source c.args.outcomes.now))
     (g.S.Source.left (outcomes_source c.replay_watched.new.outcomes)) (g.W.Sink.written (sink_of c.args.writer.now)) (g.W.Sink.written (sink_of c.replay_watched.new.watcher))
     (g.W.Sink.written (sink_of c.replay_watched.new.watcher)) (has_course_ended (standing_of c.args.outcomes.now).course) (has_course_ended (standing_of c.replay_watched.new.outcomes).course)
-    c.in-Ok.journal c.in-Ok.ensures.run
+    c.in-Ok.journal _ _ (λ lines told. told.text) c.in-Ok.ensures.run
 
 pub returns-in-Err-Unexpected-clause-reaches : goal.returns-in-Err-Unexpected-clause-reaches
 returns-in-Err-Unexpected-clause-reaches g c =
@@ -19,7 +19,7 @@ returns-in-Err-Unexpected-clause-reaches g c =
     (standing_of c.replay_watched.new.outcomes) (writer_cluster c.args.writer.now) c.requires.fresh c.requires.names (g.S.Source.left (outcomes_source c.args.outcomes.now))
     (g.S.Source.left (outcomes_source c.replay_watched.new.outcomes)) (g.W.Sink.written (sink_of c.args.writer.now)) (g.W.Sink.written (sink_of c.replay_watched.new.watcher))
     (g.W.Sink.written (sink_of c.end_of_cut.new.writer)) (has_course_ended (standing_of c.args.outcomes.now).course) (has_course_ended (standing_of c.replay_watched.new.outcomes).course)
-    c.in-Err-Unexpected.journal c.in-Err-Unexpected.field-0-1 (rw c.in-Err-Unexpected.field-0-is at c.in-Err-Unexpected.ensures.run)
+    c.in-Err-Unexpected.journal _ _ c.in-Err-Unexpected.field-0-1 (λ lines told. told.text) (rw c.in-Err-Unexpected.field-0-is at c.in-Err-Unexpected.ensures.run)
     (rw c.in-Err-Unexpected.field-0-is at c.in-Err-Unexpected.ensures.source).came.follows c.end_of_cut.result c.end_of_cut.ensures.text
 
 pub returns-in-Err-SourceFault-clause-reaches : goal.returns-in-Err-SourceFault-clause-reaches
@@ -28,9 +28,9 @@ returns-in-Err-SourceFault-clause-reaches g c =
     (standing_of c.replay_watched.new.outcomes) (writer_cluster c.args.writer.now) c.requires.fresh c.requires.names (g.S.Source.left (outcomes_source c.args.outcomes.now))
     (g.S.Source.left (outcomes_source c.replay_watched.new.outcomes)) (g.W.Sink.written (sink_of c.args.writer.now)) (g.W.Sink.written (sink_of c.replay_watched.new.watcher))
     (g.W.Sink.written (sink_of c.end_of_lines.new.writer)) (has_course_ended (standing_of c.args.outcomes.now).course) (has_course_ended (standing_of c.replay_watched.new.outcomes).course)
-    c.in-Err-SourceFault.journal (rw c.in-Err-SourceFault.field-0-is at c.in-Err-SourceFault.ensures.run)
-    (failed_kind g.S.Source.counts_only_failures (view_of g.S.Source.left g.S.Source.faults c.args.outcomes.now)
-    (view_of g.S.Source.left g.S.Source.faults c.replay_watched.new.outcomes)
+    c.in-Err-SourceFault.journal _ _ (λ lines told. told.text) (rw c.in-Err-SourceFault.field-0-is at c.in-Err-SourceFault.ensures.run)
+    (failed_kind g.S.Source.counts_only_failures (outcomes_view g.S.Source.left g.S.Source.faults c.args.outcomes.now)
+    (outcomes_view g.S.Source.left g.S.Source.faults c.replay_watched.new.outcomes)
     ((rw c.in-Err-SourceFault.field-0-is at c.in-Err-SourceFault.ensures.source).came.1 (ap (λ (s : SourceState). is_reading s.course) c.requires.fresh)))
     c.end_of_lines.result c.end_of_lines.ensures.text
 
@@ -40,7 +40,7 @@ returns-in-Err-Stopped-clause-reaches g c =
     (standing_of c.replay_watched.new.outcomes) (writer_cluster c.args.writer.now) c.requires.fresh c.requires.names (g.S.Source.left (outcomes_source c.args.outcomes.now))
     (g.S.Source.left (outcomes_source c.replay_watched.new.outcomes)) (g.W.Sink.written (sink_of c.args.writer.now)) (g.W.Sink.written (sink_of c.replay_watched.new.watcher))
     (g.W.Sink.written (sink_of c.replay_watched.new.watcher)) (has_course_ended (standing_of c.args.outcomes.now).course) (has_course_ended (standing_of c.replay_watched.new.outcomes).course)
-    c.in-Err-Stopped.journal (rw c.in-Err-Stopped.field-0-is at c.in-Err-Stopped.ensures.run) (rw c.in-Err-Stopped.field-0-is at c.in-Err-Stopped.ensures.source).came.follows
+    c.in-Err-Stopped.journal _ _ (λ lines at told. told.text) (rw c.in-Err-Stopped.field-0-is at c.in-Err-Stopped.ensures.run) (rw c.in-Err-Stopped.field-0-is at c.in-Err-Stopped.ensures.source).came.follows
 
 pub returns-in-Err-Most-clause-reaches : goal.returns-in-Err-Most-clause-reaches
 returns-in-Err-Most-clause-reaches g c =
@@ -48,7 +48,7 @@ returns-in-Err-Most-clause-reaches g c =
     (standing_of c.replay_watched.new.outcomes) (writer_cluster c.args.writer.now) c.requires.fresh c.requires.names (g.S.Source.left (outcomes_source c.args.outcomes.now))
     (g.S.Source.left (outcomes_source c.replay_watched.new.outcomes)) (g.W.Sink.written (sink_of c.args.writer.now)) (g.W.Sink.written (sink_of c.replay_watched.new.watcher))
     (g.W.Sink.written (sink_of c.replay_watched.new.watcher)) (has_course_ended (standing_of c.args.outcomes.now).course) (has_course_ended (standing_of c.replay_watched.new.outcomes).course)
-    c.in-Err-Most.journal (rw c.in-Err-Most.field-0-is at c.in-Err-Most.ensures.run)
+    c.in-Err-Most.journal _ _ (rw c.in-Err-Most.field-0-is at c.in-Err-Most.ensures.run)
 
 pub returns-in-Err-NoMemory-clause-reaches : goal.returns-in-Err-NoMemory-clause-reaches
 returns-in-Err-NoMemory-clause-reaches g c =
@@ -56,4 +56,4 @@ returns-in-Err-NoMemory-clause-reaches g c =
     (standing_of c.replay_watched.new.outcomes) (writer_cluster c.args.writer.now) c.requires.fresh c.requires.names (g.S.Source.left (outcomes_source c.args.outcomes.now))
     (g.S.Source.left (outcomes_source c.replay_watched.new.outcomes)) (g.W.Sink.written (sink_of c.args.writer.now)) (g.W.Sink.written (sink_of c.replay_watched.new.watcher))
     (g.W.Sink.written (sink_of c.replay_watched.new.watcher)) (has_course_ended (standing_of c.args.outcomes.now).course) (has_course_ended (standing_of c.replay_watched.new.outcomes).course)
-    c.args.journal (rw c.in-Err-NoMemory.field-0-is at c.in-Err-NoMemory.ensures.run)
+    c.args.journal _ _ (λ lines told. told.text) (rw c.in-Err-NoMemory.field-0-is at c.in-Err-NoMemory.ensures.run)

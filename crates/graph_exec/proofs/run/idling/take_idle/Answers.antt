@@ -1,4 +1,4 @@
-use Rattle.std.proofs.Common.{refl}
+use Rattle.std.proofs.Common.{None, refl}
 use Rattle.graph_exec.specs.declared.transition.watcher.Heard.TheVariants as heard
 use Rattle.graph_exec.proofs.Lasts.{watcher_same, watcher_told}
 use Rattle.graph_exec.proofs.LastsNext.{watcher_unanswered}
@@ -10,11 +10,11 @@ use Rattle.graph_exec.proofs.run.idling.take_idle.Goals as goal
 
 pub returns-in-Go-clause-goes_on : goal.returns-in-Go-clause-goes_on
 returns-in-Go-clause-goes_on g c =
-    is_taken _ _ _ _ c.args.journal _ _ _ _ _ c.in-Ok.taken.answer c.in-Ok.ensures.answered.said _ c.in-Ok.ensures.answered.took _ c.in-Go.ensures.tells
+    is_taken _ _ _ c.args.journal _ _ _ _ _ c.in-Ok.taken.answer c.in-Ok.ensures.answered.said _ c.in-Ok.ensures.answered.took (c.in-Go.ensures.follows refl)
 
 pub returns-in-Stop-clause-ends : goal.returns-in-Stop-clause-ends
 returns-in-Stop-clause-ends g c =
-    is_stopped _ _ _ _ c.args.journal _ _ _ _ _ c.in-Ok.taken.answer c.in-Ok.ensures.answered.said _ c.in-Ok.ensures.answered.took _ c.in-Stop.ensures.tells _
+    is_stopped _ _ _ c.args.journal _ _ _ _ _ c.in-Ok.taken.answer c.in-Ok.ensures.answered.said _ c.in-Ok.ensures.answered.took _ (c.in-Stop.ensures.stopped refl) _
     c.into_journal.ensures
 
 pub returns-in-Stop-clause-agrees_at_end : goal.returns-in-Stop-clause-agrees_at_end
@@ -23,17 +23,17 @@ returns-in-Stop-clause-agrees_at_end g c h = rw c.into_journal.ensures (c.in-Ok.
 pub returns-in-Go-clause-watcher : goal.returns-in-Go-clause-watcher
 returns-in-Go-clause-watcher g c =
     let told = c.in-Go.ensures in
-    watcher_told g.V.Watcher _ _ heard.Go told.names told.count told.cause told.follows told.stopped
+    watcher_told g.V.Watcher _ _ heard.Go told.same_lines told.count told.cause
 
 pub returns-in-Stop-clause-watcher : goal.returns-in-Stop-clause-watcher
 returns-in-Stop-clause-watcher g c =
     let told = c.in-Stop.ensures in
-    watcher_told g.V.Watcher _ _ heard.Stop told.names told.count told.cause told.follows told.stopped
+    watcher_told g.V.Watcher _ _ heard.Stop told.same_lines told.count told.cause
 
 -- none came that applies
 
 pub returns-in-Err-clause-ends : goal.returns-in-Err-clause-ends
-returns-in-Err-clause-ends g c = rw c.watched.ensures (ends_unanswered _ _ _ _ c.args.journal _ _ _ _ _ c.in-Err.end c.in-Err.ensures.unanswered)
+returns-in-Err-clause-ends g c = rw c.watched.ensures (ends_unanswered _ _ _ c.args.journal _ _ _ _ _ (g.met.V.Watcher.from_itself _) _ c.in-Err.end c.in-Err.ensures.unanswered)
 
 pub returns-in-Err-clause-agrees_at_end : goal.returns-in-Err-clause-agrees_at_end
 returns-in-Err-clause-agrees_at_end g c h = rw c.watched.ensures (c.in-Err.ensures.agrees_at_end h)
@@ -46,18 +46,21 @@ returns-in-Err-clause-source g c = rw c.watched.ensures c.in-Err.ensures.source
 
 pub returns-in-Err-clause-watcher : goal.returns-in-Err-clause-watcher
 returns-in-Err-clause-watcher g c =
-    rw c.watched.ensures (watcher_unanswered g.V.Watcher _ _ c.in-Err.end (watcher_same g.V.Watcher g.met.V.Watcher.from_itself _))
+    rw c.watched.ensures (watcher_unanswered g.V.Watcher _ _ c.in-Err.end (watcher_same g.V.Watcher _))
 
 -- what the watcher has been shown
 
 pub returns-in-Go-clause-shown : goal.returns-in-Go-clause-shown
 returns-in-Go-clause-shown g c h =
-    shown_answered (g.V.Watcher.shown c.args.watcher.now) (g.V.Watcher.shown c.taken.new.self) c.args.journal _ c.in-Ok.taken.answer c.in-Ok.ensures.answered.took
-    (λ events lines before. c.in-Go.ensures.shown refl _ _ events lines before) h
+    shown_answered (g.V.Watcher.shown c.args.watcher.now heard.Go) (g.V.Watcher.shown c.taken.new.self heard.Go) c.args.journal _ c.in-Ok.taken.answer c.in-Ok.ensures.answered.took c.requires.resting c.in-Go.ensures.shown h
 
 pub returns-in-Stop-clause-shown_at_end : goal.returns-in-Stop-clause-shown_at_end
-returns-in-Stop-clause-shown_at_end g c go h = let f : ⊥ = cc in absurd f
+returns-in-Stop-clause-shown_at_end g c h =
+    rw c.into_journal.ensures (record {
+      plan = None;
+      shown_last = shown_answered (g.V.Watcher.shown c.args.watcher.now heard.Go) (g.V.Watcher.shown c.taken.new.self heard.Stop) c.args.journal _ c.in-Ok.taken.answer c.in-Ok.ensures.answered.took c.requires.resting c.in-Stop.ensures.shown h;
+    })
 
 pub returns-in-Err-clause-shown_at_end : goal.returns-in-Err-clause-shown_at_end
-returns-in-Err-clause-shown_at_end g c go h =
+returns-in-Err-clause-shown_at_end g c h =
     rw c.watched.ensures (shown_unanswered (g.V.Watcher.shown c.args.watcher.now) c.args.journal _ _ _ _ c.in-Err.end c.in-Err.ensures.unanswered h)

@@ -1,5 +1,4 @@
 use Rattle.std.proofs.Common.{length, ◌≡◌}
-use Rattle.std.specs.Prelude.{None}
 use Rattle.graph_exec.specs.Inner.Keeping.{KeepsTo}
 use Rattle.graph_exec.specs.Lasting.{SourceLasts, none_failed}
 use Rattle.graph_exec.specs.Replays.{setting}
@@ -9,7 +8,7 @@ abbrev pub invariant-loop-made : goal.invariant-loop-made
 invariant-loop-made g l = record {
   cluster_stays : l.known.cluster ≡ l.fn.cluster;
   promotions_stay : l.known.promotions ≡ l.fn.journal.promotions;
-  keeps : KeepsTo (setting l.fn.cluster l.fn.journal.promotions (g.S.Outcomes.whole l.fn.outcomes) (g.S.Outcomes.steady l.fn.outcomes) None) l.fn.journal.events
+  keeps : KeepsTo (setting l.fn.cluster l.fn.journal.promotions (g.S.Outcomes.whole l.fn.outcomes) (g.S.Outcomes.steady l.fn.outcomes)) l.fn.journal.events
       (g.S.Outcomes.rest l.fn.outcomes) (g.S.Outcomes.rest l.outcomes) (g.S.Outcomes.over l.outcomes) l.passed l.known;
   all : length l.passed ≡ l._made;
   source : SourceLasts g.S.Outcomes l.fn.outcomes l.outcomes none_failed;

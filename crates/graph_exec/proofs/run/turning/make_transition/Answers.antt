@@ -5,19 +5,19 @@ use Rattle.graph_exec.proofs.Joined.{lacks_memory}
 use Rattle.graph_exec.proofs.Lasts.{source_same, source_then, watcher_same, watcher_then, watcher_told}
 use Rattle.graph_exec.proofs.Ready.{came_begun, comes_behind, ends_behind, has_plan, same_cluster, same_promotions, starts_fresh, stops_begun}
 use Rattle.graph_exec.proofs.Served.{serves_again}
-use Rattle.graph_exec.proofs.Shown.{end_behind, shown_behind, shown_end, shown_there}
+use Rattle.graph_exec.proofs.Shown.{end_behind, shown_behind, shown_end, shown_planned, shown_stopped, shown_there}
 use Rattle.graph_exec.proofs.run.turning.make_transition.Goals as goal
 
 -- no memory is left
 
 pub returns-in_default-clause-ends : goal.returns-in_default-clause-ends
-returns-in_default-clause-ends g c = lacks_memory (setting _ _ _ _ _) _ (sight _ _ _) tt
+returns-in_default-clause-ends g c = lacks_memory (setting _ _ _ _) _ (g.met.V.Watcher.from_itself _) _ (sight _ _) tt
 
 -- the watcher stops at the plan
 
 pub returns-in-Stop-clause-ends : goal.returns-in-Stop-clause-ends
 returns-in-Stop-clause-ends g c =
-    rw c.stopped.ensures (stops_begun c.args.journal c.in-Ok.planned c.in-Ok.ensures.ready _ _ _ _ _ _ _ _ c.requires.names c.in-Stop.ensures.tells _ refl)
+    rw c.stopped.ensures (stops_begun c.args.journal c.in-Ok.planned c.in-Ok.ensures.ready _ _ _ _ _ _ _ (c.in-Stop.ensures.stopped refl _ c.requires.lines) _ refl)
 
 -- the transition is carried out
 
@@ -27,17 +27,13 @@ carry_out-carried-requires-clause-fresh g c = starts_fresh c.args.journal c.in-O
 pub carry_out-carried-requires-clause-planned : goal.carry_out-carried-requires-clause-planned
 carry_out-carried-requires-clause-planned g c = has_plan c.args.journal c.in-Ok.planned c.in-Ok.ensures.ready
 
-pub carry_out-carried-requires-clause-names : goal.carry_out-carried-requires-clause-names
-carry_out-carried-requires-clause-names g c =
-    rw (same_cluster c.args.journal c.in-Ok.planned c.in-Ok.ensures.ready, c.planned.ensures.names) c.requires.names
-
 pub returns-in-Err-clause-ends : goal.returns-in-Err-clause-ends
 returns-in-Err-clause-ends g c =
     let j = c.args.journal in
     let p = c.in-Ok.planned in
     let ready = c.in-Ok.ensures.ready in
-    let begun = came_begun j p ready _ _ _ _ _ _ _ _ c.requires.names c.in_default-planned.ensures.tells in
-    ends_behind _ _ _ _ _ _ _ _ _ begun _ _ (same_cluster j p ready) (same_promotions j p ready) _ _ (λ steady h. h) (rw (c.in-Err.ensures, c.planned.ensures.names) at c.carry_out-carried.ensures.ends)
+    let begun = came_begun j p ready _ _ _ _ _ _ (c.in_default-planned.ensures.follows refl _ c.requires.lines) in
+    ends_behind _ _ _ (g.met.V.Watcher.from_before _ _ _) _ _ _ _ _ _ _ _ begun _ _ (same_cluster j p ready) (same_promotions j p ready) _ _ _ (g.met.V.Watcher.stopped_later _ _ _) _ (λ steady h. h) (rw c.in-Err.ensures at c.carry_out-carried.ensures.ends)
 
 -- it was aborted
 
@@ -46,9 +42,9 @@ returns-then-not-closed-clause-goes_on g c =
     let j = c.args.journal in
     let p = c.in-Ok.planned in
     let ready = c.in-Ok.ensures.ready in
-    let begun = came_begun j p ready _ _ _ _ _ _ _ _ c.requires.names c.in_default-planned.ensures.tells in
-    comes_behind _ _ _ _ _ _ _ _ _ begun _ _ (same_cluster j p ready) (same_promotions j p ready) _ _ _ c.carry_out-carried.ensures.source.over
-    (rw (c.in-Ok-with.ensures.1, c.planned.ensures.names, c.if-not-closed.true) at c.carry_out-carried.ensures.closes)
+    let begun = came_begun j p ready _ _ _ _ _ _ (c.in_default-planned.ensures.follows refl _ c.requires.lines) in
+    comes_behind _ _ _ (g.met.V.Watcher.from_before _ _ _) _ _ _ _ _ _ _ _ begun _ _ (same_cluster j p ready) (same_promotions j p ready) _ _ _ c.carry_out-carried.ensures.source.over
+    (rw (c.in-Ok-with.ensures.1, c.if-not-closed.true) at c.carry_out-carried.ensures.closes)
 
 -- it is complete
 
@@ -60,23 +56,23 @@ returns-clause-goes_on g c =
     let j = c.args.journal in
     let p = c.in-Ok.planned in
     let ready = c.in-Ok.ensures.ready in
-    let begun = came_begun j p ready _ _ _ _ _ _ _ _ c.requires.names c.in_default-planned.ensures.tells in
-    let closed = comes_behind _ _ _ _ _ _ _ _ _ begun _ _ (same_cluster j p ready) (same_promotions j p ready) _ _ _ c.carry_out-carried.ensures.source.over
-    (rw (c.in-Ok-with.ensures.1, c.planned.ensures.names, c.if-not-closed.false) at c.carry_out-carried.ensures.closes) in
-    comes_behind _ _ _ _ _ _ _ _ _ closed.came _ _ closed.cluster_stays closed.promotions_stay _ _ _
+    let begun = came_begun j p ready _ _ _ _ _ _ (c.in_default-planned.ensures.follows refl _ c.requires.lines) in
+    let closed = comes_behind _ _ _ (g.met.V.Watcher.from_before _ _ _) _ _ _ _ _ _ _ _ begun _ _ (same_cluster j p ready) (same_promotions j p ready) _ _ _ c.carry_out-carried.ensures.source.over
+    (rw (c.in-Ok-with.ensures.1, c.if-not-closed.false) at c.carry_out-carried.ensures.closes) in
+    comes_behind _ _ _ (g.met.V.Watcher.from_before _ _ _) _ _ _ _ _ _ _ _ closed.came _ _ closed.cluster_stays closed.promotions_stay _ _ _
     (λ steady h. c.take_idle-taken.ensures.source.over (c.carry_out-carried.ensures.source.steady ∙ steady) h)
-    (rw (c.carry_out-carried.ensures.source.whole, c.carry_out-carried.ensures.source.steady, c.carry_out-carried.ensures.watcher.names, c.planned.ensures.names) at (rw c.in-Ok-with-2.ensures.1 at c.take_idle-taken.ensures.goes_on))
+    (rw (c.carry_out-carried.ensures.source.whole, c.carry_out-carried.ensures.source.steady) at (rw c.in-Ok-with-2.ensures.1 at c.take_idle-taken.ensures.goes_on))
 
 pub returns-in-Err-with-clause-ends : goal.returns-in-Err-with-clause-ends
 returns-in-Err-with-clause-ends g c =
     let j = c.args.journal in
     let p = c.in-Ok.planned in
     let ready = c.in-Ok.ensures.ready in
-    let begun = came_begun j p ready _ _ _ _ _ _ _ _ c.requires.names c.in_default-planned.ensures.tells in
-    let closed = comes_behind _ _ _ _ _ _ _ _ _ begun _ _ (same_cluster j p ready) (same_promotions j p ready) _ _ _ c.carry_out-carried.ensures.source.over
-    (rw (c.in-Ok-with.ensures.1, c.planned.ensures.names, c.if-not-closed.false) at c.carry_out-carried.ensures.closes) in
-    ends_behind _ _ _ _ _ _ _ _ _ closed.came _ _ closed.cluster_stays closed.promotions_stay _ _ c.carry_out-carried.ensures.source.over
-    (rw (c.carry_out-carried.ensures.source.whole, c.carry_out-carried.ensures.source.steady, c.carry_out-carried.ensures.watcher.names, c.planned.ensures.names) at (rw c.in-Err-with.ensures at c.take_idle-taken.ensures.ends))
+    let begun = came_begun j p ready _ _ _ _ _ _ (c.in_default-planned.ensures.follows refl _ c.requires.lines) in
+    let closed = comes_behind _ _ _ (g.met.V.Watcher.from_before _ _ _) _ _ _ _ _ _ _ _ begun _ _ (same_cluster j p ready) (same_promotions j p ready) _ _ _ c.carry_out-carried.ensures.source.over
+    (rw (c.in-Ok-with.ensures.1, c.if-not-closed.false) at c.carry_out-carried.ensures.closes) in
+    ends_behind _ _ _ (g.met.V.Watcher.from_before _ _ _) _ _ _ _ _ _ _ _ closed.came _ _ closed.cluster_stays closed.promotions_stay _ _ _ (g.met.V.Watcher.stopped_later _ _ _) _ c.carry_out-carried.ensures.source.over
+    (rw (c.carry_out-carried.ensures.source.whole, c.carry_out-carried.ensures.source.steady) at (rw c.in-Err-with.ensures at c.take_idle-taken.ensures.ends))
 
 -- what the source and the watcher have come to
 
@@ -84,7 +80,7 @@ pub returns-in_default-clause-source : goal.returns-in_default-clause-source
 returns-in_default-clause-source g c = source_same g.S.Outcomes g.met.S.Outcomes.from_itself _
 
 pub returns-in_default-clause-watcher : goal.returns-in_default-clause-watcher
-returns-in_default-clause-watcher g c = watcher_same g.V.Watcher g.met.V.Watcher.from_itself _
+returns-in_default-clause-watcher g c = watcher_same g.V.Watcher _
 
 pub returns-in-Stop-clause-source : goal.returns-in-Stop-clause-source
 returns-in-Stop-clause-source g c = rw c.stopped.ensures (source_same g.S.Outcomes g.met.S.Outcomes.from_itself _)
@@ -92,7 +88,7 @@ returns-in-Stop-clause-source g c = rw c.stopped.ensures (source_same g.S.Outcom
 pub returns-in-Stop-clause-watcher : goal.returns-in-Stop-clause-watcher
 returns-in-Stop-clause-watcher g c =
     let told = c.in-Stop.ensures in
-    rw c.stopped.ensures (watcher_told g.V.Watcher _ _ heard.Stop told.names told.count told.cause told.follows told.stopped)
+    rw c.stopped.ensures (watcher_told g.V.Watcher _ _ heard.Stop told.same_lines told.count told.cause)
 
 pub returns-in-Err-clause-source : goal.returns-in-Err-clause-source
 returns-in-Err-clause-source g c = rw c.in-Err.ensures at c.carry_out-carried.ensures.source
@@ -100,7 +96,7 @@ returns-in-Err-clause-source g c = rw c.in-Err.ensures at c.carry_out-carried.en
 pub returns-in-Err-clause-watcher : goal.returns-in-Err-clause-watcher
 returns-in-Err-clause-watcher g c =
     let told = c.in_default-planned.ensures in
-    watcher_then g.V.Watcher g.met.V.Watcher.from_before g.met.V.Watcher.stopped_later _ _ _ _ (watcher_told g.V.Watcher _ _ heard.Go told.names told.count told.cause told.follows told.stopped)
+    watcher_then g.V.Watcher _ _ _ _ (watcher_told g.V.Watcher _ _ heard.Go told.same_lines told.count told.cause)
     (rw c.in-Err.ensures at c.carry_out-carried.ensures.watcher)
 
 pub returns-then-not-closed-clause-source : goal.returns-then-not-closed-clause-source
@@ -109,7 +105,7 @@ returns-then-not-closed-clause-source g c = rw c.in-Ok-with.ensures.1 at c.carry
 pub returns-then-not-closed-clause-watcher : goal.returns-then-not-closed-clause-watcher
 returns-then-not-closed-clause-watcher g c =
     let told = c.in_default-planned.ensures in
-    watcher_then g.V.Watcher g.met.V.Watcher.from_before g.met.V.Watcher.stopped_later _ _ _ _ (watcher_told g.V.Watcher _ _ heard.Go told.names told.count told.cause told.follows told.stopped)
+    watcher_then g.V.Watcher _ _ _ _ (watcher_told g.V.Watcher _ _ heard.Go told.same_lines told.count told.cause)
     (rw c.in-Ok-with.ensures.1 at c.carry_out-carried.ensures.watcher)
 
 pub returns-clause-source : goal.returns-clause-source
@@ -120,8 +116,8 @@ returns-clause-source g c =
 pub returns-clause-watcher : goal.returns-clause-watcher
 returns-clause-watcher g c =
     let told = c.in_default-planned.ensures in
-    watcher_then g.V.Watcher g.met.V.Watcher.from_before g.met.V.Watcher.stopped_later _ _ _ _
-    (watcher_then g.V.Watcher g.met.V.Watcher.from_before g.met.V.Watcher.stopped_later _ _ _ _ (watcher_told g.V.Watcher _ _ heard.Go told.names told.count told.cause told.follows told.stopped)
+    watcher_then g.V.Watcher _ _ _ _
+    (watcher_then g.V.Watcher _ _ _ _ (watcher_told g.V.Watcher _ _ heard.Go told.same_lines told.count told.cause)
     (rw c.in-Ok-with.ensures.1 at c.carry_out-carried.ensures.watcher))
     (rw c.in-Ok-with-2.ensures.1 at c.take_idle-taken.ensures.watcher)
 
@@ -133,8 +129,8 @@ returns-in-Err-with-clause-source g c =
 pub returns-in-Err-with-clause-watcher : goal.returns-in-Err-with-clause-watcher
 returns-in-Err-with-clause-watcher g c =
     let told = c.in_default-planned.ensures in
-    watcher_then g.V.Watcher g.met.V.Watcher.from_before g.met.V.Watcher.stopped_later _ _ _ _
-    (watcher_then g.V.Watcher g.met.V.Watcher.from_before g.met.V.Watcher.stopped_later _ _ _ _ (watcher_told g.V.Watcher _ _ heard.Go told.names told.count told.cause told.follows told.stopped)
+    watcher_then g.V.Watcher _ _ _ _
+    (watcher_then g.V.Watcher _ _ _ _ (watcher_told g.V.Watcher _ _ heard.Go told.same_lines told.count told.cause)
     (rw c.in-Ok-with.ensures.1 at c.carry_out-carried.ensures.watcher))
     (rw c.in-Err-with.ensures at c.take_idle-taken.ensures.watcher)
 
@@ -155,34 +151,42 @@ returns-clause-serves g c =
 -- what the watcher has been shown
 
 pub returns-in-Stop-clause-shown_at_end : goal.returns-in-Stop-clause-shown_at_end
-returns-in-Stop-clause-shown_at_end g c go h = let stop = rw c.stopped.ensures at go in let f : ⊥ = cc in absurd f
+returns-in-Stop-clause-shown_at_end g c h =
+    let planned = shown_planned c.args.journal c.in-Ok.planned c.in-Ok.ensures.ready (g.V.Watcher.shown c.args.watcher.now heard.Go) (g.V.Watcher.shown c.planned.new.self heard.Stop) c.in-Stop.ensures.shown h in
+    rw c.stopped.ensures (shown_stopped c.args.journal c.in-Ok.planned c.in-Ok.ensures.ready (g.V.Watcher.shown c.planned.new.self) heard.Stop planned _ refl)
 
 pub returns-in-Err-clause-shown_at_end : goal.returns-in-Err-clause-shown_at_end
-returns-in-Err-clause-shown_at_end g c go h =
-    shown_end (g.V.Watcher.shown c.args.watcher.now) (g.V.Watcher.shown c.planned.new.self) c.args.journal c.in-Ok.planned c.in-Ok.ensures.ready
-    (λ promotions actions plan before. c.in_default-planned.ensures.shown refl _ _ promotions actions plan before)
-    (g.V.Watcher.shown c.carry_out-carried.new.watcher) _ ((rw c.in-Err.ensures at c.carry_out-carried.ensures.shown_at_end) go) h
+returns-in-Err-clause-shown_at_end g c h =
+    let planned = shown_planned c.args.journal c.in-Ok.planned c.in-Ok.ensures.ready (g.V.Watcher.shown c.args.watcher.now heard.Go) (g.V.Watcher.shown c.planned.new.self heard.Go) c.in_default-planned.ensures.shown h in
+    shown_end c.args.journal c.in-Ok.planned c.in-Ok.ensures.ready (g.V.Watcher.shown c.carry_out-carried.new.watcher) _
+    ((rw c.in-Err.ensures at c.carry_out-carried.ensures.shown_at_end) planned)
 
 pub returns-then-not-closed-clause-shown : goal.returns-then-not-closed-clause-shown
 returns-then-not-closed-clause-shown g c h =
-    shown_there (g.V.Watcher.shown c.args.watcher.now) (g.V.Watcher.shown c.planned.new.self) c.args.journal c.in-Ok.planned c.in-Ok.ensures.ready
-    (λ promotions actions plan before. c.in_default-planned.ensures.shown refl _ _ promotions actions plan before)
-    (g.V.Watcher.shown c.carry_out-carried.new.watcher) _ (rw c.in-Ok-with.ensures.1 at c.carry_out-carried.ensures.shown) h
+    let planned = shown_planned c.args.journal c.in-Ok.planned c.in-Ok.ensures.ready (g.V.Watcher.shown c.args.watcher.now heard.Go) (g.V.Watcher.shown c.planned.new.self heard.Go) c.in_default-planned.ensures.shown h in
+    shown_there c.args.journal c.in-Ok.planned c.in-Ok.ensures.ready (g.V.Watcher.shown c.carry_out-carried.new.watcher heard.Go) _
+    ((rw c.in-Ok-with.ensures.1 at c.carry_out-carried.ensures.shown) planned)
 
 pub returns-clause-shown : goal.returns-clause-shown
 returns-clause-shown g c h =
-    let closed = shown_there (g.V.Watcher.shown c.args.watcher.now) (g.V.Watcher.shown c.planned.new.self) c.args.journal c.in-Ok.planned c.in-Ok.ensures.ready
-    (λ promotions actions plan before. c.in_default-planned.ensures.shown refl _ _ promotions actions plan before)
-    (g.V.Watcher.shown c.carry_out-carried.new.watcher) _ (rw c.in-Ok-with.ensures.1 at c.carry_out-carried.ensures.shown) h in
-    let same = (rw c.in-Ok-with.ensures.1 at c.carry_out-carried.ensures.closes).cluster_stays ∙ same_cluster c.args.journal c.in-Ok.planned c.in-Ok.ensures.ready in
-    shown_behind (g.V.Watcher.shown c.carry_out-carried.new.watcher) (g.V.Watcher.shown c.take_idle-taken.new.watcher) _ _ _ _ same
-    (rw c.in-Ok-with-2.ensures.1 at c.take_idle-taken.ensures.shown) closed
+    let j = c.args.journal in
+    let p = c.in-Ok.planned in
+    let ready = c.in-Ok.ensures.ready in
+    let planned = shown_planned j p ready (g.V.Watcher.shown c.args.watcher.now heard.Go) (g.V.Watcher.shown c.planned.new.self heard.Go) c.in_default-planned.ensures.shown h in
+    let there = shown_there j p ready (g.V.Watcher.shown c.carry_out-carried.new.watcher heard.Go) _ ((rw c.in-Ok-with.ensures.1 at c.carry_out-carried.ensures.shown) planned) in
+    let closes = rw c.in-Ok-with.ensures.1 at c.carry_out-carried.ensures.closes in
+    shown_behind _ _ _ _ (closes.cluster_stays ∙ same_cluster j p ready) (closes.promotions_stay ∙ same_promotions j p ready)
+    (g.V.Watcher.shown c.carry_out-carried.new.watcher heard.Go) (g.V.Watcher.shown c.take_idle-taken.new.watcher heard.Go) _ _
+    (rw c.in-Ok-with-2.ensures.1 at c.take_idle-taken.ensures.shown) there
 
 pub returns-in-Err-with-clause-shown_at_end : goal.returns-in-Err-with-clause-shown_at_end
-returns-in-Err-with-clause-shown_at_end g c go h =
-    let closed = shown_there (g.V.Watcher.shown c.args.watcher.now) (g.V.Watcher.shown c.planned.new.self) c.args.journal c.in-Ok.planned c.in-Ok.ensures.ready
-    (λ promotions actions plan before. c.in_default-planned.ensures.shown refl _ _ promotions actions plan before)
-    (g.V.Watcher.shown c.carry_out-carried.new.watcher) _ (rw c.in-Ok-with.ensures.1 at c.carry_out-carried.ensures.shown) h in
-    let same = (rw c.in-Ok-with.ensures.1 at c.carry_out-carried.ensures.closes).cluster_stays ∙ same_cluster c.args.journal c.in-Ok.planned c.in-Ok.ensures.ready in
-    end_behind (g.V.Watcher.shown c.carry_out-carried.new.watcher) (g.V.Watcher.shown c.take_idle-taken.new.watcher) _ _ _ _ same
-    ((rw c.in-Err-with.ensures at c.take_idle-taken.ensures.shown_at_end) go) closed
+returns-in-Err-with-clause-shown_at_end g c h =
+    let j = c.args.journal in
+    let p = c.in-Ok.planned in
+    let ready = c.in-Ok.ensures.ready in
+    let planned = shown_planned j p ready (g.V.Watcher.shown c.args.watcher.now heard.Go) (g.V.Watcher.shown c.planned.new.self heard.Go) c.in_default-planned.ensures.shown h in
+    let there = shown_there j p ready (g.V.Watcher.shown c.carry_out-carried.new.watcher heard.Go) _ ((rw c.in-Ok-with.ensures.1 at c.carry_out-carried.ensures.shown) planned) in
+    let closes = rw c.in-Ok-with.ensures.1 at c.carry_out-carried.ensures.closes in
+    end_behind _ _ _ _ (closes.cluster_stays ∙ same_cluster j p ready) (closes.promotions_stay ∙ same_promotions j p ready)
+    (g.V.Watcher.shown c.carry_out-carried.new.watcher heard.Go) (g.V.Watcher.shown c.take_idle-taken.new.watcher) _ _
+    (rw c.in-Err-with.ensures at c.take_idle-taken.ensures.shown_at_end) there

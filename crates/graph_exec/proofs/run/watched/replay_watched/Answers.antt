@@ -8,7 +8,7 @@ use Rattle.graph_exec.proofs.run.watched.replay_watched.Goals as goal
 -- no memory is left
 
 pub returns-in_default-clause-run : goal.returns-in_default-clause-run
-returns-in_default-clause-run g c = nothing_made _ _ _
+returns-in_default-clause-run g c = nothing_made _ _ (g.met.V.Watcher.from_itself _) _ _ _
 
 pub returns-in_default-clause-safe : goal.returns-in_default-clause-safe
 returns-in_default-clause-safe g c = safe_run _ _ _ c.requires.valid _ _ c.requires.at_rest
@@ -17,17 +17,17 @@ pub returns-in_default-clause-source : goal.returns-in_default-clause-source
 returns-in_default-clause-source g c = source_same g.S.Outcomes g.met.S.Outcomes.from_itself _
 
 pub returns-in_default-clause-watcher : goal.returns-in_default-clause-watcher
-returns-in_default-clause-watcher g c = watcher_same g.V.Watcher g.met.V.Watcher.from_itself _
+returns-in_default-clause-watcher g c = watcher_same g.V.Watcher _
 
 -- one transition after the other
 
 pub loop-made-init : goal.loop-made-init
 loop-made-init g c = record {
-  came = starts _ _ _ _ _ _ _ _ c.in-Ok.ensures.ok;
+  came = starts _ (g.met.V.Watcher.from_itself _) _ _ _ _ _ _ _ c.in-Ok.ensures.ok;
   serves = tt;
   source = source_same g.S.Outcomes g.met.S.Outcomes.from_itself _;
   agrees = λ h. rw c.in-Ok.ensures.ok h;
-  watcher = watcher_same g.V.Watcher g.met.V.Watcher.from_itself _;
+  watcher = watcher_same g.V.Watcher _;
   shown = λ h. rw c.in-Ok.ensures.ok h;
 }
 
@@ -36,10 +36,10 @@ make_transition-requires-clause-valid g c = rw c.loop-made.invariant.came.cluste
 
 pub make_transition-requires-clause-at_rest : goal.make_transition-requires-clause-at_rest
 make_transition-requires-clause-at_rest g c =
-    rests _ _ _ _ (safe_run _ _ _ c.requires.valid _ _ c.requires.at_rest) _ _ c.loop-made.invariant.came.came
+    rests _ _ _ _ _ (safe_run _ _ _ c.requires.valid _ _ c.requires.at_rest) _ _ c.loop-made.invariant.came.came
 
-pub make_transition-requires-clause-names : goal.make_transition-requires-clause-names
-make_transition-requires-clause-names g c = rw (c.loop-made.invariant.came.cluster_stays, c.loop-made.invariant.watcher.names) c.requires.names
+pub make_transition-requires-clause-lines : goal.make_transition-requires-clause-lines
+make_transition-requires-clause-lines g c = rw c.loop-made.invariant.came.cluster_stays (c.loop-made.invariant.watcher.same_lines _ c.requires.lines)
 
 pub make_transition-requires-clause-last : goal.make_transition-requires-clause-last
 make_transition-requires-clause-last g c = rw c.loop-made.invariant.came.cluster_stays c.loop-made.invariant.serves
@@ -49,13 +49,14 @@ loop-made-preserved g c =
     let so_far = c.loop-made.invariant in
     let now = c.in-Ok-make_transition.ensures in
     record {
-      came = comes_behind _ _ _ _ _ _ _ _ _ so_far.came.came _ _ so_far.came.cluster_stays so_far.came.promotions_stay _ _ _
-          (λ steady h. now.source.over (so_far.source.steady ∙ steady) h) (rw (so_far.source.whole, so_far.source.steady, so_far.watcher.names) at now.goes_on);
+      came = comes_behind _ _ _ (g.met.V.Watcher.from_before _ _ _) _ _ _ _ _ _ _ _ so_far.came.came _ _ so_far.came.cluster_stays so_far.came.promotions_stay _ _ _
+          (λ steady h. now.source.over (so_far.source.steady ∙ steady) h) (rw (so_far.source.whole, so_far.source.steady) at now.goes_on);
       serves = rw so_far.came.cluster_stays at now.serves;
       source = source_then g.S.Outcomes g.met.S.Outcomes.from_before g.met.S.Outcomes.said_later _ _ _ _ so_far.source now.source;
       agrees = λ h. rw so_far.came.cluster_stays at (now.agrees (rw so_far.came.cluster_stays (so_far.agrees h)));
-      watcher = watcher_then g.V.Watcher g.met.V.Watcher.from_before g.met.V.Watcher.stopped_later _ _ _ _ so_far.watcher now.watcher;
-      shown = λ h. rw so_far.came.cluster_stays at (now.shown (rw so_far.came.cluster_stays (so_far.shown h)));
+      watcher = watcher_then g.V.Watcher _ _ _ _ so_far.watcher now.watcher;
+      shown = λ h. rw (so_far.came.cluster_stays, so_far.came.promotions_stay) at
+          (now.shown (rw (so_far.came.cluster_stays, so_far.came.promotions_stay) (so_far.shown h)));
     }
 
 -- the run ends on the way
@@ -63,8 +64,8 @@ loop-made-preserved g c =
 pub returns-in-Err-clause-run : goal.returns-in-Err-clause-run
 returns-in-Err-clause-run g c =
     let so_far = c.loop-made.invariant in
-    replays _ _ _ _ _ _ (ends_behind _ _ _ _ _ _ _ _ _ so_far.came.came _ _ so_far.came.cluster_stays so_far.came.promotions_stay _ _ so_far.source.over
-    (rw (so_far.source.whole, so_far.source.steady, so_far.watcher.names) at c.in-Err.ensures.ends))
+    replays _ _ _ _ _ _ _ _ (ends_behind _ _ _ (g.met.V.Watcher.from_before _ _ _) _ _ _ _ _ _ _ _ so_far.came.came _ _ so_far.came.cluster_stays so_far.came.promotions_stay _ _ _ (g.met.V.Watcher.stopped_later _ _ _) _ so_far.source.over
+    (rw (so_far.source.whole, so_far.source.steady) at c.in-Err.ensures.ends))
 
 pub returns-in-Err-clause-safe : goal.returns-in-Err-clause-safe
 returns-in-Err-clause-safe g c = safe_run _ _ _ c.requires.valid _ _ c.requires.at_rest
@@ -72,9 +73,10 @@ returns-in-Err-clause-safe g c = safe_run _ _ _ c.requires.valid _ _ c.requires.
 pub returns-in-Err-clause-kept : goal.returns-in-Err-clause-kept
 returns-in-Err-clause-kept g c =
     let so_far = c.loop-made.invariant in
-    kept _ _ _ _ (safe_run _ _ _ c.requires.valid _ _ c.requires.at_rest) _
-    (ends_behind _ _ _ _ _ _ _ _ _ so_far.came.came _ _ so_far.came.cluster_stays so_far.came.promotions_stay _ _ so_far.source.over
-    (rw (so_far.source.whole, so_far.source.steady, so_far.watcher.names) at c.in-Err.ensures.ends))
+    kept (g.V.Watcher.follows c.args.watcher.now c.make_transition.new.watcher) _ _ _ _ (safe_run _ _ _ c.requires.valid _ _ c.requires.at_rest)
+    (g.V.Watcher.stopped c.args.watcher.now c.make_transition.new.watcher) _
+    (ends_behind _ _ _ (g.met.V.Watcher.from_before _ _ _) _ _ _ _ _ _ _ _ so_far.came.came _ _ so_far.came.cluster_stays so_far.came.promotions_stay _ _ _ (g.met.V.Watcher.stopped_later _ _ _) _ so_far.source.over
+    (rw (so_far.source.whole, so_far.source.steady) at c.in-Err.ensures.ends))
 
 pub returns-in-Err-clause-agrees : goal.returns-in-Err-clause-agrees
 returns-in-Err-clause-agrees g c h =
@@ -92,12 +94,13 @@ returns-in-Err-clause-source g c =
 
 pub returns-in-Err-clause-watcher : goal.returns-in-Err-clause-watcher
 returns-in-Err-clause-watcher g c =
-    watcher_then g.V.Watcher g.met.V.Watcher.from_before g.met.V.Watcher.stopped_later _ _ _ _ c.loop-made.invariant.watcher c.in-Err.ensures.watcher
+    watcher_then g.V.Watcher _ _ _ _ c.loop-made.invariant.watcher c.in-Err.ensures.watcher
 
 pub returns-in-Err-clause-shown : goal.returns-in-Err-clause-shown
-returns-in-Err-clause-shown g c go h =
+returns-in-Err-clause-shown g c h =
     let so_far = c.loop-made.invariant in
-    rw so_far.came.cluster_stays at (c.in-Err.ensures.shown_at_end go (rw so_far.came.cluster_stays (so_far.shown h)))
+    rw (so_far.came.cluster_stays, so_far.came.promotions_stay) at
+    (c.in-Err.ensures.shown_at_end (rw (so_far.came.cluster_stays, so_far.came.promotions_stay) (so_far.shown h)))
 
 -- as many transitions were made as are allowed
 
@@ -105,7 +108,7 @@ pub returns-clause-run : goal.returns-clause-run
 returns-clause-run g c =
     let so_far = c.loop-made.invariant in
     let all : c.loop-made.made ≡ c.args.most = omega arith in
-    up_to _ _ _ _ _ _ _ (ap events_in c.into_journal.ensures) (rw all at so_far.came.came)
+    up_to _ _ _ _ _ _ _ _ _ (ap events_in c.into_journal.ensures) (rw all at so_far.came.came)
 
 pub returns-clause-safe : goal.returns-clause-safe
 returns-clause-safe g c = safe_run _ _ _ c.requires.valid _ _ c.requires.at_rest
@@ -114,10 +117,10 @@ pub returns-clause-kept : goal.returns-clause-kept
 returns-clause-kept g c =
     let so_far = c.loop-made.invariant in
     rw c.into_journal.ensures
-    (kept_due _ _ _ _ (safe_run _ _ _ c.requires.valid _ _ c.requires.at_rest) _ _ _ refl so_far.came.promotions_stay so_far.came.came)
+    (kept_due _ _ _ _ _ (safe_run _ _ _ c.requires.valid _ _ c.requires.at_rest) _ _ _ refl so_far.came.promotions_stay so_far.came.came)
 
 pub returns-clause-agrees : goal.returns-clause-agrees
 returns-clause-agrees g c h = rw c.into_journal.ensures (c.loop-made.invariant.agrees h)
 
 pub returns-clause-shown : goal.returns-clause-shown
-returns-clause-shown g c go h = rw c.into_journal.ensures (c.loop-made.invariant.shown h)
+returns-clause-shown g c h = rw c.into_journal.ensures (c.loop-made.invariant.shown h)

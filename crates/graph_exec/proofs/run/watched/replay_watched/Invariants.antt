@@ -3,20 +3,22 @@ use Rattle.cluster_types.specs.Runs.{due}
 use Rattle.graph_exec.specs.declared.transition.watcher.Heard.TheVariants as heard
 use Rattle.graph_exec.specs.Lasting.{SourceLasts, WatcherLasts, none_failed}
 use Rattle.graph_exec.specs.Replays.{setting, sight}
+use Rattle.graph_exec.specs.Telling.{view_between}
 use Rattle.graph_exec.specs.Inner.Turns.{CameTo, Serves}
 use Rattle.graph_exec.proofs.run.watched.replay_watched.Given as goal
 
 abbrev pub invariant-loop-made : goal.invariant-loop-made
 invariant-loop-made g l = record {
-  came : CameTo
-      (setting l.fn.cluster l.fn.journal.promotions (g.S.Outcomes.whole l.fn.outcomes) (g.S.Outcomes.steady l.fn.outcomes) (g.V.Watcher.names l.fn.watcher))
+  came : CameTo (g.V.Watcher.follows l.fn.watcher l.watcher)
+      (setting l.fn.cluster l.fn.journal.promotions (g.S.Outcomes.whole l.fn.outcomes) (g.S.Outcomes.steady l.fn.outcomes))
       (due 1 l.fn.journal.events)
-      (sight (g.S.Outcomes.rest l.fn.outcomes) (g.S.Outcomes.over l.fn.outcomes) (g.V.Watcher.told l.fn.watcher))
-      (sight (g.S.Outcomes.rest l.outcomes) (g.S.Outcomes.over l.outcomes) (g.V.Watcher.told l.watcher))
+      (sight (g.S.Outcomes.rest l.fn.outcomes) (g.S.Outcomes.over l.fn.outcomes))
+      (sight (g.S.Outcomes.rest l.outcomes) (g.S.Outcomes.over l.outcomes))
       (due (l.made + 1)) l.known;
   serves : IfSome l.last (Serves l.fn.cluster);
   source : SourceLasts g.S.Outcomes l.fn.outcomes l.outcomes none_failed;
   agrees : g.S.Outcomes.agrees l.fn.outcomes l.fn.cluster l.fn.journal.events 0 → g.S.Outcomes.agrees l.outcomes l.fn.cluster l.known.events 0;
   watcher : WatcherLasts g.V.Watcher l.fn.watcher l.watcher heard.Go;
-  shown : g.V.Watcher.shown l.fn.watcher l.fn.cluster l.fn.journal.events → g.V.Watcher.shown l.watcher l.fn.cluster l.known.events;
+  shown : g.V.Watcher.shown l.fn.watcher heard.Go (view_between l.fn.cluster l.fn.journal.promotions l.fn.journal.events)
+      → g.V.Watcher.shown l.watcher heard.Go (view_between l.fn.cluster l.fn.journal.promotions l.known.events);
 }

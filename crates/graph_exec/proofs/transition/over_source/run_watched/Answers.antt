@@ -1,11 +1,13 @@
 use Rattle.std.proofs.Common.{arith, Some, ap, refl, sym, ◌∙◌}
 use Rattle.lemmas.proofs.Booleans.{fails_too}
 use Rattle.graph_exec.specs.declared.transition.watcher.Heard.TheVariants as heard
+use Rattle.graph_exec.specs.Watching.{IsShownAll}
 use Rattle.graph_exec.proofs.Carrying.{expected_done, gone_done, gone_further, has_ended_now, went_nowhere, went_on}
 use Rattle.graph_exec.proofs.Lasts.{source_done, source_same, source_then, watcher_done, watcher_same, watcher_then}
 use Rattle.graph_exec.proofs.Fewer.{asks_most}
 use Rattle.graph_exec.proofs.Promised.{ends_well, promised}
 use Rattle.graph_exec.proofs.Said.{done_said, going_said, said_nothing, said_on, stopped_said}
+use Rattle.graph_exec.proofs.Shown.{done_shown}
 use Rattle.graph_exec.proofs.Told.{hears_done, hears_on, told_nothing, told_on}
 use Rattle.graph_exec.proofs.transition.over_source.run_watched.Goals as goal
 
@@ -16,8 +18,8 @@ loop-executor-init g c = record {
   source = source_same g.S.Outcomes g.met.S.Outcomes.from_itself _;
   said = λ steady h. said_nothing _ _;
   agrees = λ h. h;
-  told = told_nothing _ _ _;
-  watcher = watcher_same g.V.Watcher g.met.V.Watcher.from_itself _;
+  told = told_nothing _ (g.met.V.Watcher.from_itself _) _;
+  watcher = watcher_same g.V.Watcher _;
   shown = λ h. h;
 }
 
@@ -31,8 +33,8 @@ returns-in-Stop-clause-promises g c = promised _ c.begin_all.ensures.under_way
 
 pub returns-in-Stop-clause-told : goal.returns-in-Stop-clause-told
 returns-in-Stop-clause-told g c =
-    hears_on _ _ _ _ _ _ _ _ _ _ _ heard.Stop c.loop-executor.invariant.went c.loop-executor.invariant.told
-    (rw (c.loop-executor.invariant.source.whole, c.loop-executor.invariant.watcher.names) at c.in-Stop.ensures.told)
+    hears_on _ _ (g.V.Watcher.follows c.args.watcher.now c.begin_all.new.watcher) (g.met.V.Watcher.from_before _ _ _) _ _ (g.met.V.Watcher.stopped_later _ _ _) _ _ _ _ _ _ _ heard.Stop c.loop-executor.invariant.went c.loop-executor.invariant.told
+    (rw c.loop-executor.invariant.source.whole at c.in-Stop.ensures.told)
 
 pub returns-in-Stop-clause-asked : goal.returns-in-Stop-clause-asked
 returns-in-Stop-clause-asked g c =
@@ -50,7 +52,7 @@ returns-in-Stop-clause-source g c =
 
 pub returns-in-Stop-clause-watcher : goal.returns-in-Stop-clause-watcher
 returns-in-Stop-clause-watcher g c =
-    watcher_then g.V.Watcher g.met.V.Watcher.from_before g.met.V.Watcher.stopped_later _ _ _ _ c.loop-executor.invariant.watcher c.in-Stop.ensures.watcher
+    watcher_then g.V.Watcher _ _ _ _ c.loop-executor.invariant.watcher c.in-Stop.ensures.watcher
 
 -- nothing is in flight any more
 
@@ -87,7 +89,7 @@ returns-then-count-eq0-clause-fitting g c careful agrees = expected_done _ c.end
 
 pub returns-then-count-eq0-clause-told : goal.returns-then-count-eq0-clause-told
 returns-then-count-eq0-clause-told g c =
-    hears_done _ _ _ _ _ _ _ _ _ c.end.ensures.done (told_on _ _ _ _ _ _ _ c.loop-executor.invariant.told (rw c.loop-executor.invariant.watcher.names at c.in_default.ensures.told))
+    hears_done _ _ _ _ _ _ _ _ c.end.ensures.done (told_on _ _ _ (g.met.V.Watcher.from_before _ _ _) _ _ _ c.loop-executor.invariant.told c.in_default.ensures.told)
 
 pub returns-then-count-eq0-clause-source : goal.returns-then-count-eq0-clause-source
 returns-then-count-eq0-clause-source g c =
@@ -97,7 +99,7 @@ returns-then-count-eq0-clause-source g c =
 pub returns-then-count-eq0-clause-watcher : goal.returns-then-count-eq0-clause-watcher
 returns-then-count-eq0-clause-watcher g c =
     watcher_done g.V.Watcher _ _ _ c.end.ensures.done
-    (watcher_then g.V.Watcher g.met.V.Watcher.from_before g.met.V.Watcher.stopped_later _ _ _ _ c.loop-executor.invariant.watcher c.in_default.ensures.watcher)
+    (watcher_then g.V.Watcher _ _ _ _ c.loop-executor.invariant.watcher c.in_default.ensures.watcher)
 
 -- the source has no answer that applies, or the watcher stops at one
 
@@ -124,10 +126,10 @@ returns-in-Some-clause-asked g c =
 
 pub returns-in-Some-clause-told : goal.returns-in-Some-clause-told
 returns-in-Some-clause-told g c =
-    hears_on _ _ _ _ _ _ _ _ _ _ _ _
+    hears_on _ _ _ (g.met.V.Watcher.from_before _ _ _) _ _ (g.met.V.Watcher.stopped_later _ _ _) _ _ _ _ _ _ _ _
     (went_on _ _ _ _ _ _ _ c.loop-executor.invariant.went (rw c.loop-executor.invariant.source.whole at c.begin_all.ensures.went))
-    (told_on _ _ _ _ _ _ _ c.loop-executor.invariant.told (rw c.loop-executor.invariant.watcher.names at c.in_default.ensures.told))
-    (rw (c.begin_all.ensures.source.whole, c.loop-executor.invariant.source.whole, c.begin_all.ensures.watcher.names, c.loop-executor.invariant.watcher.names) at c.in-Some.ensures.told)
+    (told_on _ _ _ (g.met.V.Watcher.from_before _ _ _) _ _ _ c.loop-executor.invariant.told c.in_default.ensures.told)
+    (rw (c.begin_all.ensures.source.whole, c.loop-executor.invariant.source.whole) at c.in-Some.ensures.told)
 
 pub returns-in-Some-clause-said : goal.returns-in-Some-clause-said
 returns-in-Some-clause-said g c steady =
@@ -148,8 +150,8 @@ returns-in-Some-clause-source g c =
 
 pub returns-in-Some-clause-watcher : goal.returns-in-Some-clause-watcher
 returns-in-Some-clause-watcher g c =
-    watcher_then g.V.Watcher g.met.V.Watcher.from_before g.met.V.Watcher.stopped_later _ _ _ _
-    (watcher_then g.V.Watcher g.met.V.Watcher.from_before g.met.V.Watcher.stopped_later _ _ _ _ c.loop-executor.invariant.watcher c.in_default.ensures.watcher)
+    watcher_then g.V.Watcher _ _ _ _
+    (watcher_then g.V.Watcher _ _ _ _ c.loop-executor.invariant.watcher c.in_default.ensures.watcher)
     c.in-Some.ensures.watcher
 
 -- an answer was taken
@@ -176,20 +178,20 @@ loop-executor-preserved g c =
           said_on _ _ _ _ _ _ (so_far.said steady (fails_too _ _ (begun.source.over (so_far.source.steady ∙ steady)) was_open))
           (said_on _ _ _ _ _ _ begun.said (asked.said steady_now open_still));
       agrees = λ h. asked.agrees (begun.agrees (so_far.agrees h));
-      told = told_on _ _ _ _ _ _ _ so_far.told
-          (told_on _ _ _ _ _ _ _ (rw so_far.watcher.names at c.in_default.ensures.told) (rw (begun.watcher.names, so_far.watcher.names) at asked.told));
-      watcher = watcher_then g.V.Watcher g.met.V.Watcher.from_before g.met.V.Watcher.stopped_later _ _ _ _ so_far.watcher
-          (watcher_then g.V.Watcher g.met.V.Watcher.from_before g.met.V.Watcher.stopped_later _ _ _ _ c.in_default.ensures.watcher asked.watcher);
-      shown = λ h. asked.shown refl (c.in_default.ensures.shown refl (so_far.shown h));
+      told = told_on _ _ _ (g.met.V.Watcher.from_before _ _ _) _ _ _ so_far.told
+          (told_on _ _ _ (g.met.V.Watcher.from_before _ _ _) _ _ _ c.in_default.ensures.told asked.told);
+      watcher = watcher_then g.V.Watcher _ _ _ _ so_far.watcher
+          (watcher_then g.V.Watcher _ _ _ _ c.in_default.ensures.watcher asked.watcher);
+      shown = λ h. asked.shown (c.in_default.ensures.shown (so_far.shown h));
     }
 
 -- what the watcher has been shown
 
 pub returns-in-Stop-clause-shown : goal.returns-in-Stop-clause-shown
-returns-in-Stop-clause-shown g c go h = let f : ⊥ = cc in absurd f
+returns-in-Stop-clause-shown g c h = c.in-Stop.ensures.shown (c.loop-executor.invariant.shown h)
 
 pub returns-then-count-eq0-clause-shown : goal.returns-then-count-eq0-clause-shown
-returns-then-count-eq0-clause-shown g c go h = c.in_default.ensures.shown refl (c.loop-executor.invariant.shown h)
+returns-then-count-eq0-clause-shown g c h = done_shown (λ said r. IsShownAll (g.V.Watcher.shown c.begin_all.new.watcher said) r) _ _ c.end.ensures.done (c.in_default.ensures.shown (c.loop-executor.invariant.shown h))
 
 pub returns-in-Some-clause-shown : goal.returns-in-Some-clause-shown
-returns-in-Some-clause-shown g c go h = c.in-Some.ensures.shown go (c.in_default.ensures.shown refl (c.loop-executor.invariant.shown h))
+returns-in-Some-clause-shown g c h = c.in-Some.ensures.shown (c.in_default.ensures.shown (c.loop-executor.invariant.shown h))

@@ -15,9 +15,9 @@ invariant-loop-executor g l = record {
   said : g.S.Outcomes.steady l.fn.outcomes ≡ true → g.S.Outcomes.over l.outcomes ≡ false
       → WentAsSaid l.fn.executor l.executor (g.S.Outcomes.rest l.fn.outcomes) (g.S.Outcomes.rest l.outcomes);
   agrees : Accords (g.S.Outcomes.agrees l.fn.outcomes) l.fn.executor → Accords (g.S.Outcomes.agrees l.outcomes) l.executor;
-  told : AreLinesTold (g.V.Watcher.names l.fn.watcher) l.fn.executor l.executor (g.V.Watcher.told l.fn.watcher) (g.V.Watcher.told l.watcher);
+  told : AreLinesTold (g.V.Watcher.follows l.fn.watcher l.watcher) l.fn.executor l.executor;
   watcher : WatcherLasts g.V.Watcher l.fn.watcher l.watcher heard.Go;
-  shown : IsShownAll (g.V.Watcher.shown l.fn.watcher) l.fn.executor → IsShownAll (g.V.Watcher.shown l.watcher) l.executor;
+  shown : IsShownAll (g.V.Watcher.shown l.fn.watcher heard.Go) l.fn.executor → IsShownAll (g.V.Watcher.shown l.watcher heard.Go) l.executor;
 }
 
 abbrev pub decreases-loop-executor : goal.decreases-loop-executor

@@ -14,8 +14,8 @@ loop-init g c = record {
   source = source_same g.S.Outcomes g.met.S.Outcomes.from_itself _;
   asked = refl;
   agrees = λ h. h;
-  told = told_nothing _ _ _;
-  watcher = watcher_same g.V.Watcher g.met.V.Watcher.from_itself _;
+  told = told_nothing _ (g.met.V.Watcher.from_itself _) _;
+  watcher = watcher_same g.V.Watcher _;
   shown = λ h. h;
 }
 
@@ -35,10 +35,10 @@ loop-preserved g c =
       source = source_then g.S.Outcomes g.met.S.Outcomes.from_before g.met.S.Outcomes.said_later _ _ _ _ so_far.source now.source;
       asked = now.asked ∙ so_far.asked;
       agrees = λ h. now.agrees (so_far.agrees h);
-      told = told_on _ _ _ _ _ _ _ so_far.told (rw (so_far.watcher.names, c.in-Some-Go.field-0-is) at c.in-Some-Go.ensures.told);
-      watcher = watcher_then g.V.Watcher g.met.V.Watcher.from_before g.met.V.Watcher.stopped_later _ _ _ _ so_far.watcher
+      told = told_on _ _ _ (g.met.V.Watcher.from_before _ _ _) _ _ _ so_far.told (rw c.in-Some-Go.field-0-is at c.in-Some-Go.ensures.told);
+      watcher = watcher_then g.V.Watcher _ _ _ _ so_far.watcher
           (rw c.in-Some-Go.field-0-is at c.in-Some-Go.ensures.watcher);
-      shown = λ h. c.in-Some-Go.ensures.shown c.in-Some-Go.field-0-is (so_far.shown h);
+      shown = λ h. (rw c.in-Some-Go.field-0-is at c.in-Some-Go.ensures.shown) (so_far.shown h);
     }
 
 -- none may begin any more
@@ -50,7 +50,7 @@ pub returns-in-None-clause-said : goal.returns-in-None-clause-said
 returns-in-None-clause-said g c = said_on _ _ _ _ _ _ c.loop.invariant.said c.begin_one.ensures.said
 
 pub returns-in-None-clause-told : goal.returns-in-None-clause-told
-returns-in-None-clause-told g c = told_on _ _ _ _ _ _ _ c.loop.invariant.told (rw c.loop.invariant.watcher.names at c.in-None.ensures.told)
+returns-in-None-clause-told g c = told_on _ _ _ (g.met.V.Watcher.from_before _ _ _) _ _ _ c.loop.invariant.told c.in-None.ensures.told
 
 pub returns-in-None-clause-source : goal.returns-in-None-clause-source
 returns-in-None-clause-source g c =
@@ -58,7 +58,7 @@ returns-in-None-clause-source g c =
 
 pub returns-in-None-clause-watcher : goal.returns-in-None-clause-watcher
 returns-in-None-clause-watcher g c =
-    watcher_then g.V.Watcher g.met.V.Watcher.from_before g.met.V.Watcher.stopped_later _ _ _ _ c.loop.invariant.watcher c.in-None.ensures.watcher
+    watcher_then g.V.Watcher _ _ _ _ c.loop.invariant.watcher c.in-None.ensures.watcher
 
 -- the watcher stops
 
@@ -70,8 +70,8 @@ returns-in-Some-Stop-clause-said g c = said_on _ _ _ _ _ _ c.loop.invariant.said
 
 pub returns-in-Some-Stop-clause-told : goal.returns-in-Some-Stop-clause-told
 returns-in-Some-Stop-clause-told g c =
-    hears_on _ _ _ _ _ _ _ _ _ _ _ heard.Stop c.loop.invariant.went c.loop.invariant.told
-    (rw (c.loop.invariant.source.whole, c.loop.invariant.watcher.names, c.in-Some-Stop.field-0-is) at c.in-Some-Stop.ensures.told)
+    hears_on _ _ (g.V.Watcher.follows c.args.watcher.now c.begin_one.new.watcher) (g.met.V.Watcher.from_before _ _ _) _ _ (g.met.V.Watcher.stopped_later _ _ _) _ _ _ _ _ _ _ heard.Stop c.loop.invariant.went c.loop.invariant.told
+    (rw (c.loop.invariant.source.whole, c.in-Some-Stop.field-0-is) at c.in-Some-Stop.ensures.told)
 
 pub returns-in-Some-Stop-clause-source : goal.returns-in-Some-Stop-clause-source
 returns-in-Some-Stop-clause-source g c =
@@ -79,13 +79,13 @@ returns-in-Some-Stop-clause-source g c =
 
 pub returns-in-Some-Stop-clause-watcher : goal.returns-in-Some-Stop-clause-watcher
 returns-in-Some-Stop-clause-watcher g c =
-    watcher_then g.V.Watcher g.met.V.Watcher.from_before g.met.V.Watcher.stopped_later _ _ _ _ c.loop.invariant.watcher
+    watcher_then g.V.Watcher _ _ _ _ c.loop.invariant.watcher
     (rw c.in-Some-Stop.field-0-is at c.in-Some-Stop.ensures.watcher)
 
 -- what the watcher has been shown
 
 pub returns-in-None-clause-shown : goal.returns-in-None-clause-shown
-returns-in-None-clause-shown g c go h = c.in-None.ensures.shown refl (c.loop.invariant.shown h)
+returns-in-None-clause-shown g c h = c.in-None.ensures.shown (c.loop.invariant.shown h)
 
 pub returns-in-Some-Stop-clause-shown : goal.returns-in-Some-Stop-clause-shown
-returns-in-Some-Stop-clause-shown g c go h = let f : ⊥ = cc in absurd f
+returns-in-Some-Stop-clause-shown g c h = (rw c.in-Some-Stop.field-0-is at c.in-Some-Stop.ensures.shown) (c.loop.invariant.shown h)

@@ -15,9 +15,9 @@ invariant-loop g l = record {
   source : SourceLasts g.S.Outcomes l.fn.outcomes l.outcomes none_failed;
   asked : g.S.Outcomes.asked l.outcomes ≡ g.S.Outcomes.asked l.fn.outcomes;
   agrees : Accords (g.S.Outcomes.agrees l.fn.outcomes) l.fn.self → Accords (g.S.Outcomes.agrees l.outcomes) l.self;
-  told : AreLinesTold (g.V.Watcher.names l.fn.watcher) l.fn.self l.self (g.V.Watcher.told l.fn.watcher) (g.V.Watcher.told l.watcher);
+  told : AreLinesTold (g.V.Watcher.follows l.fn.watcher l.watcher) l.fn.self l.self;
   watcher : WatcherLasts g.V.Watcher l.fn.watcher l.watcher heard.Go;
-  shown : IsShownAll (g.V.Watcher.shown l.fn.watcher) l.fn.self → IsShownAll (g.V.Watcher.shown l.watcher) l.self;
+  shown : IsShownAll (g.V.Watcher.shown l.fn.watcher heard.Go) l.fn.self → IsShownAll (g.V.Watcher.shown l.watcher heard.Go) l.self;
 }
 
 abbrev pub decreases-loop : goal.decreases-loop

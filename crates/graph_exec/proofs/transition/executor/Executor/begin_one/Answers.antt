@@ -1,4 +1,6 @@
-use Rattle.std.proofs.Common.{◌∙◌}
+use Rattle.std.proofs.Common.{Some, ap, ◌∙◌}
+use Rattle.graph_exec.specs.declared.transition.watcher.Heard.TheVariants as heard
+use Rattle.graph_exec.specs.Watching.{view_of}
 use Rattle.graph_exec.proofs.Carrying.{fewer_begins, no_more_asks, went_begun, went_nowhere}
 use Rattle.graph_exec.proofs.Lasts.{source_same, source_told, watcher_same, watcher_told}
 use Rattle.graph_exec.proofs.Said.{said_begun, said_nothing}
@@ -19,7 +21,7 @@ pub returns-in_default-clause-source : goal.returns-in_default-clause-source
 returns-in_default-clause-source g c = source_same g.S.Outcomes g.met.S.Outcomes.from_itself _
 
 pub returns-in_default-clause-watcher : goal.returns-in_default-clause-watcher
-returns-in_default-clause-watcher g c = watcher_same g.V.Watcher g.met.V.Watcher.from_itself _
+returns-in_default-clause-watcher g c = watcher_same g.V.Watcher _
 
 -- one begins
 
@@ -44,7 +46,7 @@ pub returns-clause-told : goal.returns-clause-told
 returns-clause-told g c =
     let graph = rw c.self.view_is at c.flight.ensures.graph in
     let action = begun_action _ _ c.in-Some.number c.in-Some.ensures.begins c.action-action.result (rw (c.graph.ensures ∙ graph) at c.action-action.ensures) in
-    hears_begin _ _ _ _ _ _ c.in-Some.number c.in-Some.ensures.begins _ _ _ c.begun.ensures.rest (rw action c.begun-2.ensures.tells)
+    hears_begin _ _ _ _ _ _ _ c.in-Some.number c.in-Some.ensures.begins _ c.begun.ensures.rest (rw action c.begun-2.ensures.follows) (rw action c.begun-2.ensures.stopped)
 
 pub returns-clause-source : goal.returns-clause-source
 returns-clause-source g c =
@@ -54,17 +56,17 @@ returns-clause-source g c =
 pub returns-clause-watcher : goal.returns-clause-watcher
 returns-clause-watcher g c =
     let told = c.begun-2.ensures in
-    watcher_told g.V.Watcher _ _ _ told.names told.count told.cause told.follows told.stopped
+    watcher_told g.V.Watcher _ _ _ told.same_lines told.count told.cause
 
 -- what the watcher has been shown
 
 pub returns-in_default-clause-shown : goal.returns-in_default-clause-shown
-returns-in_default-clause-shown g c go h = rw c.in_default.ensures.settled.same h
+returns-in_default-clause-shown g c h = rw c.in_default.ensures.settled.same h
 
 pub returns-clause-shown : goal.returns-clause-shown
-returns-clause-shown g c go h =
+returns-clause-shown g c h =
     let begins = c.in-Some.ensures.begins in
     let graph = rw c.self.view_is at c.flight.ensures.graph in
     let action = begun_action _ _ c.in-Some.number begins c.action-action.result (rw (c.graph.ensures ∙ graph) at c.action-action.ensures) in
-    shown_later (g.V.Watcher.shown c.args.watcher.now) (g.V.Watcher.shown c.begun-2.new.self) _ _ _ begins.goes_on
-    (λ before. rw action (c.begun-2.ensures.shown go _ _ before)) h
+    shown_later (g.V.Watcher.shown c.args.watcher.now heard.Go) (g.V.Watcher.shown c.begun-2.new.self c.begun-2.result) _ _ _ begins.goes_on
+    (λ before. rw action (c.begun-2.ensures.shown (view_of c.args.self.now) (begins.begins.action ∙ ap Some action) before)) h

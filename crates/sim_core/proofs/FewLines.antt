@@ -1,0 +1,99 @@
+-- An input within the limit has few lines of a run, and they have few answers.
+use Rattle.std.proofs.Common.{arith, ◌≡◌, ◌≤◌, ◌<◌, ◌+◌, ◌-◌, ◌^◌, ℕ, zero, suc, List, [], ◌∷◌, ◌++◌, length, length-append, take, drop, Ok, refl, sym, ap, subst, ◌∙◌}
+use Rattle.std.specs.Prelude.{slice_range}
+use Rattle.std.specs.List.{flat_map}
+use Rattle.std.proofs.lemmas.Grind.{flat_map-append}
+use Rattle.crm_lex.specs.declared.line.Line.{Line}
+use Rattle.crm_lex.specs.Reading.{reads}
+use Rattle.cluster_model.specs.Resolution.{resolution_of}
+use Rattle.cluster_types.specs.declared.cluster.Cluster.{Cluster}
+use Rattle.cluster_types.specs.declared.journal.Answer.{Answer}
+use Rattle.cluster_types.specs.declared.run.RunLine.{RunLine}
+use Rattle.cluster_types.specs.declared.run.RunLine.TheVariants as line
+use Rattle.faults.proofs.Steps.{bind-ok}
+use Rattle.input_reading.specs.declared.input.cause.InputCause.TheVariants as cause
+use Rattle.input_reading.specs.declared.input.reading.Head.{Head}
+use Rattle.input_reading.specs.declared.input.trace.Trace.{Trace}
+use Rattle.input_reading.specs.declared.run.text.RunTextLine.{RunTextLine}
+use Rattle.input_reading.specs.Reading.{configuration_of, following_lines, head_of, line_behind, most_bytes, status_lines}
+use Rattle.input_reading.specs.RunReading.{text_line, read_run_lines, with_run_lines}
+use Rattle.input_reading.specs.Sections.{sections_with_trace}
+use Rattle.input_reading.specs.Traces.{ReadsTrace, trace_of, with_run}
+use Rattle.input_reading.proofs.FewLines.{few_rows_read}
+use Rattle.input_reading.proofs.ValidInput.{passed, passed_on}
+use Rattle.sim_core.specs.Lawful.{answer_in}
+
+-- each line says one thing
+count_run : (c : Cluster) (so_far : List RunTextLine) (lines : List Line) (out : List RunTextLine) → with_run_lines c so_far lines ≡ Ok out
+    → length out ≡ length so_far + length lines
+count_run c so_far [] out e = let same : so_far ≡ out = cc in let n = ap (λ (ls : List RunTextLine). length ls) same in omega arith
+count_run c so_far (at ∷ more) out e =
+    let (one, is, rest) = bind-ok (text_line c at) (λ (one : RunTextLine). with_run_lines c (so_far ++ one ∷ []) more) out e in
+    let n = count_run c (so_far ++ one ∷ []) more out rest in
+    let joint = length-append so_far (one ∷ []) in
+    omega arith
+
+fewer_taken : {X : Type 0} (n : ℕ) (xs : List X) → length (take n xs) ≤ length xs
+fewer_taken zero xs = omega arith
+fewer_taken (suc n) [] = omega arith
+fewer_taken (suc n) (x ∷ xs) = let m = fewer_taken n xs in omega arith
+
+fewer_left : {X : Type 0} (n : ℕ) (xs : List X) → length (drop n xs) ≤ length xs
+fewer_left zero xs = omega arith
+fewer_left (suc n) [] = omega arith
+fewer_left (suc n) (x ∷ xs) = let m = fewer_left n xs in omega arith
+
+few_behind : (after : ℕ) (head : Head) (lines : List Line) (trace : Trace) → with_run after head lines ≡ Ok trace → length trace.run.lines ≤ length lines
+unfolding with_run
+few_behind after head lines trace e =
+    let run = passed cause.Run (read_run_lines head.cluster lines) _ trace e in
+    let made : record { head = head; run = record { lines = run.gave }; after = after } ≡ trace = cc in
+    let count = count_run head.cluster [] lines run.gave run.is in
+    subst (λ (t : Trace). length t.run.lines ≤ length lines) made (omega arith)
+
+few_lines : (text : List ℕ) (trace : Trace) → ReadsTrace text trace → length trace.run.lines ≤ length text
+unfolding trace_of configuration_of
+few_lines text trace r =
+    let found = passed_on (configuration_of sections_with_trace text) _ trace r in
+    let cluster = passed cause.Cluster (resolution_of found.gave.leaves found.gave.crm.statements) _ trace found.goes_on in
+    let behind = following_lines found.gave.marks found.gave.lines in
+    let head = passed_on (head_of found.gave.crm cluster.gave (status_lines found.gave.marks found.gave.lines)) (λ head. with_run (line_behind found.gave.lines) head behind) trace
+    cluster.goes_on in
+    let run = few_behind (line_behind found.gave.lines) head.gave behind trace head.goes_on in
+    let of_text = passed cause.Words (reads text) _ found.gave found.is in
+    let marks = passed cause.Statements (sections_with_trace of_text.gave) _ found.gave of_text.goes_on in
+    let crm = passed cause.Statements _ _ found.gave marks.goes_on in
+    let leaves = passed cause.Leaves _ _ found.gave crm.goes_on in
+    let same : of_text.gave ≡ found.gave.lines = cc in
+    let all = subst (λ (ls : List Line). length ls ≤ length text) same (few_rows_read text of_text.gave of_text.is) in
+    let part = few_there found.gave.lines (found.gave.marks.results_at + 1) found.gave.marks.end in
+    omega arith
+  where
+    few_there : (lines : List Line) (from to : ℕ) → length (slice_range lines from to) ≤ length lines
+    few_there lines from to = let a = fewer_taken (to - from) (drop from lines) in let b = fewer_left from lines in omega arith
+
+pub few_in_trace : (text : List ℕ) (trace : Trace) → ReadsTrace text trace → length text ≤ most_bytes → length trace.run.lines + 1 < 2 ^ 32
+few_in_trace text trace r within = let few = few_lines text trace r in omega arith
+
+-- their answers
+one_answer : (l : RunLine) → length (answer_in l) ≤ 1
+one_answer (line.Taken given) = omega arith
+one_answer (line.Transition k) = omega arith
+one_answer (line.Pinned r pin) = omega arith
+one_answer (line.Goal r n goal) = omega arith
+one_answer (line.Lacking r reason) = omega arith
+one_answer (line.Begin k a) = omega arith
+one_answer (line.Complete k) = omega arith
+one_answer (line.Aborted k) = omega arith
+one_answer (line.Unexpected k) = omega arith
+
+few_found : (lines : List RunTextLine) → length (flat_map (λ (l : RunTextLine). answer_in l.what) lines) ≤ length lines
+few_found [] = omega arith
+few_found (l ∷ lines) =
+    let joint = length-append (answer_in l.what) (flat_map (λ (x : RunTextLine). answer_in x.what) lines) in
+    let one = one_answer l.what in
+    let more = few_found lines in
+    omega arith
+
+pub few_answers : (answers : List Answer) (lines : List RunTextLine) → answers ≡ flat_map (λ (l : RunTextLine). answer_in l.what) lines → length answers ≤ length lines
+few_answers answers lines is = let few = few_found lines in let n = ap (λ (all : List Answer). length all) is in omega arith

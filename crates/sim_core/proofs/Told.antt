@@ -1,0 +1,83 @@
+-- What an auditor is told, line by line.
+use Rattle.std.proofs.Common.{arith, ◌≡◌, ◌≢◌, ◌+◌, ◌<◌, ◌≤◌, ℕ, zero, suc, List, [], ◌∷◌, ◌++◌, length, take, append-nil, append_assoc, refl, sym, ap, subst, ◌∙◌}
+use Rattle.std.specs.Prelude.{Some, slice_get}
+use Rattle.std.proofs.lemmas.Option.{none-some, slice_get_within}
+use Rattle.cluster_types.specs.declared.run.RunLine.{RunLine}
+use Rattle.input_reading.specs.declared.run.text.RunTextLine.{RunTextLine}
+use Rattle.sim_core.specs.declared.auditor.Auditor.{Auditor}
+use Rattle.sim_core.specs.Inner.Auditors.{PassesLines, StopsAtLine, audited_cluster, audited_lines}
+use Rattle.graph_exec.specs.Telling.{StopsAmong}
+use Rattle.sim_core.specs.Inner.AuditorLaws.{passes_then, stops_later}
+use Rattle.sim_core.specs.Lawful.{clause_of, said}
+
+take_next : {X : Type 0} (xs : List X) (i : ℕ) (x : X) → slice_get xs i ≡ Some x → take (i + 1) xs ≡ take i xs ++ x ∷ []
+take_next [] i x e = absurd (none-some x e)
+take_next (y ∷ xs) zero x e = let same : y ≡ x = cc in ap (λ z. z ∷ []) same
+take_next (y ∷ xs) (suc i) x e = let n : suc i + 1 ≡ suc (i + 1) = omega arith in rw n (ap (λ zs. y ∷ zs) (take_next xs i x e))
+
+-- what stands at a place of the written lines, the line there says
+pub said_at : (lines : List RunTextLine) (i : ℕ) (l : RunTextLine) → slice_get lines i ≡ Some l → slice_get (said lines) i ≡ Some l.what
+said_at [] i l e = absurd (none-some l e)
+said_at (x ∷ lines) zero l e = let same : x ≡ l = cc in ap (λ (y : RunTextLine). Some y.what) same
+said_at (x ∷ lines) (suc i) l e = said_at lines i l e
+
+module _ (old new : Auditor) (line : RunLine) (cluster : audited_cluster new ≡ audited_cluster old) (lines : new.lines.now ≡ old.lines.now) where
+  -- the next line is told
+  pub passes_one : new.place ≡ old.place + 1 → slice_get (audited_lines old) old.place ≡ Some line → PassesLines old new (line ∷ [])
+  passes_one place there = record {
+    cluster_stays = cluster;
+    lines_stay = lines;
+    within = λ h. rw (place, lines) (let w = slice_get_within (audited_lines old) old.place line there in omega arith);
+    passed = rw (place, lines) (take_next (audited_lines old) old.place line there);
+  }
+
+  -- another is
+  pub stops_one : new.place ≡ old.place → new.due ≡ Some (clause_of line) → slice_get (audited_lines old) old.place ≢ Some line → StopsAtLine old new [] line
+  stops_one place due different = record {
+    passes = record {
+      cluster_stays = cluster;
+      lines_stay = lines;
+      within = λ h. rw (place, lines) h;
+      passed = rw (place, lines) (sym (append-nil (take old.place (audited_lines old))));
+    };
+    different = rw (place, lines) different;
+    due_is = due;
+  }
+
+-- the first of some lines were told, and these are left
+pub record HearsOn (old new : Auditor) (lines left : List RunLine) : Type 0 where
+  pub passed : List RunLine
+  pub parts : lines ≡ passed ++ left
+  pub passes : PassesLines old new passed
+
+module _ (old new : Auditor) (lines : List RunLine) where
+  pub hears_first : (line : RunLine) (left : List RunLine) → lines ≡ line ∷ left → PassesLines old new (line ∷ []) → HearsOn old new lines left
+  hears_first line left parts p = record { passed = line ∷ []; parts = parts; passes = p }
+
+  pub hears_more : (middle : Auditor) (left rest : List RunLine) (line : RunLine) → left ≡ line ∷ rest → HearsOn old middle lines left → PassesLines middle new (line ∷ [])
+      → HearsOn old new lines rest
+  hears_more middle left rest line next h p = record {
+    passed = h.passed ++ line ∷ [];
+    parts = h.parts ∙ (ap (λ (ls : List RunLine). h.passed ++ ls) next ∙ sym (append_assoc h.passed (line ∷ []) rest));
+    passes = passes_then old middle new h.passed (line ∷ []) h.passes p;
+  }
+
+  -- it stops at the next
+  pub hears_stop : (middle : Auditor) (left rest : List RunLine) (line : RunLine) → left ≡ line ∷ rest → HearsOn old middle lines left → StopsAtLine middle new [] line
+      → StopsAmong (StopsAtLine old new) lines
+  hears_stop middle left rest line next h s = record {
+    before = h.passed;
+    at = line;
+    behind = rest;
+    parts = h.parts ∙ ap (λ (ls : List RunLine). h.passed ++ ls) next;
+    stopped = subst (λ (ls : List RunLine). StopsAtLine old new ls line) (append-nil h.passed) (stops_later old middle new h.passed [] h.passes line s);
+  }
+
+  -- none is left
+  pub hears_all : (left : List RunLine) → left ≡ [] → HearsOn old new lines left → PassesLines old new lines
+  hears_all left none h =
+      subst (λ (ls : List RunLine). PassesLines old new ls) (sym (h.parts ∙ (ap (λ (ls : List RunLine). h.passed ++ ls) none ∙ append-nil h.passed))) h.passes
+
+  -- it stops at the first
+  pub stops_first : (line : RunLine) (left : List RunLine) → lines ≡ line ∷ left → StopsAtLine old new [] line → StopsAmong (StopsAtLine old new) lines
+  stops_first line left parts s = record { before = []; at = line; behind = left; parts = parts; stopped = s }

@@ -1,0 +1,118 @@
+//! The target lines, one by one.
+
+ghost use Rattle.std.specs.Prelude.{◌≡◌, ◌∷◌, ◌<◌, [], true, ℕ, Some, List, IfSome, MatchOption, length, slice_get};
+ghost use Rattle.cluster_types.specs.declared.placement.NoReason.TheVariants.{Held};
+ghost use Rattle.cluster_types.specs.Valid.{KeepsLimits};
+ghost use Rattle.crm_lex.specs.Names.{is_name};
+ghost use Rattle.trace_text.specs.RunLines.{HasName, lent_line};
+ghost use Rattle.trace_text.specs.TargetWalk.{IsLineFound, lines_from, lines_in, next_place};
+
+use crate::run_line_ref::RunLineRef;
+use cluster_types::{Cluster, NodeId, Placed, Target, pin_of};
+
+/// What a target line of a leaf says.
+#[derive(Clone, Copy)]
+pub enum LineColumn {
+    /// Why the leaf is left as it is.
+    Pin,
+    /// Its target on the node.
+    Goal(NodeId),
+    /// Why it has no target.
+    Reason,
+}
+
+/// A place among the target lines of all leaves, of which some places have no line.
+#[derive(Clone, Copy)]
+pub struct LinePlace {
+    pub leaf: usize,
+    pub column: LineColumn,
+}
+
+impl LinePlace {
+    /// The first place.
+    pub const FIRST: LinePlace = LinePlace {
+        leaf: 0,
+        column: LineColumn::Pin,
+    };
+
+    /// The place behind it.
+    fn behind(self, cluster: &Cluster) -> LinePlace
+        requires limits { KeepsLimits cluster.now }
+        requires within { self.leaf < length cluster.now.leaves }
+        ensures { result ≡ next_place cluster.now self }
+    {
+        let leaf = self.leaf;
+        match self.column {
+            LineColumn::Pin => LinePlace {
+                leaf,
+                column: LineColumn::Goal(0),
+            },
+            LineColumn::Goal(node) if (node as usize) < cluster.nodes.len() => LinePlace {
+                leaf,
+                column: LineColumn::Goal(node + 1),
+            },
+            LineColumn::Goal(_) => LinePlace {
+                leaf,
+                column: LineColumn::Reason,
+            },
+            LineColumn::Reason => LinePlace {
+                leaf: leaf + 1,
+                column: LineColumn::Pin,
+            },
+        }
+    }
+}
+
+/// The line at a place, if one stands there.
+fn line_at<'a>(cluster: &Cluster, placed: &'a Placed, place: LinePlace) -> Option<RunLineRef<'a>>
+    requires limits { KeepsLimits cluster.now }
+    requires within { place.leaf < length cluster.now.leaves }
+    requires named { (r : ℕ) (id : List ℕ) → slice_get placed.now.none r ≡ Some (Some (Held id)) → is_name id ≡ true }
+    ensures line { IsLineFound result (lines_in cluster.now placed.now place.leaf place.column) }
+    ensures named { IfSome result HasName }
+{
+    let leaf = place.leaf as u32;
+    match place.column {
+        LineColumn::Pin => match pin_of(placed.pins.as_slice(), leaf) {
+            Some(pin) => Some(RunLineRef::Pinned(leaf, pin)),
+            None => None,
+        },
+        LineColumn::Goal(node) if (node as usize) < cluster.nodes.len() => {
+            match placed.table.target(leaf, node) {
+                Target::Nowhere => None,
+                Target::Started => Some(RunLineRef::Goal(leaf, node, Target::Started)),
+                Target::Promoted => Some(RunLineRef::Goal(leaf, node, Target::Promoted)),
+            }
+        }
+        LineColumn::Goal(_) => None,
+        LineColumn::Reason => match placed.none.as_slice().get(place.leaf) {
+            Some(Some(reason)) => Some(RunLineRef::Lacking(leaf, reason)),
+            Some(None) | None => None,
+        },
+    }
+}
+
+/// The next target line from a place on, which then stands behind it; none where there is no more. It takes no memory.
+///
+/// It asks for a cluster within the limits, and that the id of a rule that holds a leaf back is a name.
+pub fn next_target_line<'a>(
+    cluster: &Cluster,
+    placed: &'a Placed,
+    place: &mut LinePlace,
+) -> Option<RunLineRef<'a>>
+    requires limits { KeepsLimits cluster.now }
+    requires named { (r : ℕ) (id : List ℕ) → slice_get placed.now.none r ≡ Some (Some (Held id)) → is_name id ≡ true }
+    ensures line { MatchOption result (lines_from cluster.now placed.now place.old ≡ [])
+        (λ line. lines_from cluster.now placed.now place.old ≡ lent_line line ∷ lines_from cluster.now placed.now place.new) }
+    ensures named { IfSome result HasName }
+{
+    while place.leaf < cluster.leaves.len() {
+        let found = line_at(cluster, placed, *place);
+        *place = place.behind(cluster);
+        match found {
+            Some(line) => return Some(line),
+            None => {}
+        }
+    }
+    None
+}
