@@ -46,12 +46,12 @@ const JOURNALS: &[Row] = &[
     ),
     (
         "node n1 offline\nop n1 vip stop 0 0 9\nnode n2 online\n",
-        "Up { node: 0 } Up { node: 1 } Ended { number: 0, action: Cell { op: Stop, leaf: 0, node: 0, interval_ms: 0, role: Started }, outcome: Code(0), moment: 9 } \
+        "Up { node: 0 } Up { node: 1 } Ended { number: 0, action: Operation { op: Stop, leaf: 0, node: 0, interval_ms: 0, role: Started }, outcome: Code(0), moment: 9 } \
         Down { node: 0 } Quorum { yes: false } Wait { seconds: 0 } ",
     ),
     (
         "node n1 online\nnode n2 online\nop n1 vip start 00 1 0900\n",
-        "Up { node: 0 } Up { node: 1 } Ended { number: 0, action: Cell { op: Start, leaf: 0, node: 0, interval_ms: 0, role: Started }, outcome: Code(1), moment: 900 } \
+        "Up { node: 0 } Up { node: 1 } Ended { number: 0, action: Operation { op: Start, leaf: 0, node: 0, interval_ms: 0, role: Started }, outcome: Code(1), moment: 900 } \
         Quorum { yes: false } Wait { seconds: 0 } ",
     ),
     (
@@ -60,24 +60,24 @@ const JOURNALS: &[Row] = &[
     ),
     (
         "node n1 online\nnode n2 online\nop n1 db monitor 010000 190 1\n",
-        "Up { node: 0 } Up { node: 1 } Ended { number: 0, action: Cell { op: Monitor, leaf: 1, node: 0, interval_ms: 10000, role: Started }, outcome: Code(190), moment: 1 } \
+        "Up { node: 0 } Up { node: 1 } Ended { number: 0, action: Operation { op: Monitor, leaf: 1, node: 0, interval_ms: 10000, role: Started }, outcome: Code(190), moment: 1 } \
         Quorum { yes: false } Wait { seconds: 0 } ",
     ),
     (
         "node n1 online\nnode n2 online\nop n1 db monitor 11000 8 1\n",
-        "Up { node: 0 } Up { node: 1 } Ended { number: 0, action: Cell { op: Monitor, leaf: 1, node: 0, interval_ms: 11000, role: Promoted }, outcome: Code(8), moment: 1 } \
+        "Up { node: 0 } Up { node: 1 } Ended { number: 0, action: Operation { op: Monitor, leaf: 1, node: 0, interval_ms: 11000, role: Promoted }, outcome: Code(8), moment: 1 } \
         Quorum { yes: false } Wait { seconds: 0 } ",
     ),
     (
         "node n1 online\nnode n2 online\nop n1 db monitor 4294967295 timeout 1\n",
-        "Up { node: 0 } Up { node: 1 } Ended { number: 0, action: Cell { op: Monitor, leaf: 1, node: 0, interval_ms: 4294967295, role: Started }, outcome: TimedOut, moment: 1 } \
+        "Up { node: 0 } Up { node: 1 } Ended { number: 0, action: Operation { op: Monitor, leaf: 1, node: 0, interval_ms: 4294967295, role: Started }, outcome: TimedOut, moment: 1 } \
         Quorum { yes: false } Wait { seconds: 0 } ",
     ),
     (
         "node n1 online\nnode n2 online\nop n2 db promote 0 0 5\ncleanup n2 db\nop n2 db demote 0 255 1099511627775\ncleanup n2 db\n",
-        "Up { node: 0 } Up { node: 1 } Ended { number: 0, action: Cell { op: Promote, leaf: 1, node: 1, interval_ms: 0, role: Started }, outcome: Code(0), moment: 5 } \
+        "Up { node: 0 } Up { node: 1 } Ended { number: 0, action: Operation { op: Promote, leaf: 1, node: 1, interval_ms: 0, role: Started }, outcome: Code(0), moment: 5 } \
         Cleanup { leaf: 1, node: 1 } \
-        Ended { number: 0, action: Cell { op: Demote, leaf: 1, node: 1, interval_ms: 0, role: Started }, outcome: Code(255), moment: 1099511627775 } \
+        Ended { number: 0, action: Operation { op: Demote, leaf: 1, node: 1, interval_ms: 0, role: Started }, outcome: Code(255), moment: 1099511627775 } \
         Cleanup { leaf: 1, node: 1 } Quorum { yes: false } Wait { seconds: 0 } ",
     ),
     (

@@ -2,7 +2,7 @@
 use Rattle.std.proofs.Common.{arith, ◌≡◌, Bool, true, false, List, [], ◌∷◌, Some, None, refl}
 use Rattle.std.specs.Prelude.{codes, Option}
 use Rattle.cluster_types.specs.declared.cluster.Cluster.{Cluster}
-use Rattle.cluster_types.specs.declared.journal.Action.TheVariants.{Probe, Cell}
+use Rattle.cluster_types.specs.declared.journal.Action.TheVariants.{Probe, Operation}
 use Rattle.cluster_types.specs.declared.journal.Answer.{Answer}
 use Rattle.cluster_types.specs.declared.journal.Answer.TheVariants as answer
 use Rattle.cluster_types.specs.declared.journal.Event.{Event}
@@ -81,7 +81,7 @@ one_second_more = refl
 abbrev ignoring : Cluster
 ignoring = two_nodes (record (plain_leaf (codes "a")) { monitors = record { interval_ms = 10000; role = role.Started; on_fail = on_fail.Ignore } ∷ [] } ∷ [])
 
-ignored_is_a_success : is_success ignoring (Cell Monitor 0 0 10000 role.Started) (Code 1) ≡ true
+ignored_is_a_success : is_success ignoring (Operation Monitor 0 0 10000 role.Started) (Code 1) ≡ true
 ignored_is_a_success = refl
 
 ignored_is_no_news : applies_after ignoring (online (did Start 0 0 0 900 ∷ []) 1000) [] 0 (answer.Report 0 0 10000 1) ≡ false

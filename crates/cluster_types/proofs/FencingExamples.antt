@@ -5,7 +5,7 @@ use Rattle.lemmas.proofs.Searches.{of_none}
 use Rattle.cluster_types.specs.declared.cluster.Cluster.{Cluster}
 use Rattle.cluster_types.specs.declared.cluster.Policy.TheVariants as policy
 use Rattle.cluster_types.specs.declared.journal.Action.{Action}
-use Rattle.cluster_types.specs.declared.journal.Action.TheVariants.{Fence, Probe, Cell}
+use Rattle.cluster_types.specs.declared.journal.Action.TheVariants.{Fence, Probe, Operation}
 use Rattle.cluster_types.specs.declared.journal.Event.{Event}
 use Rattle.cluster_types.specs.declared.journal.Event.TheVariants.{Up, Lost, Quorum, Wait, Begin, Ended}
 use Rattle.cluster_types.specs.declared.journal.Outcome.TheVariants.{Code}
@@ -98,7 +98,7 @@ nothing_more = of_needed leaving stuck stuck_table (Contains rescue)
     (λ r n o h l. cells_of_one (λ r n. GetsStep leaving stuck stuck_table r n o → Contains rescue (step o r n))
     (λ g. of_none (λ o. Contains rescue (step o 0 0)) o (step_of_uncycled leaving stuck stuck_table 0 0 o (nothing_cycled 0 0) g))
     (λ g. of_one (λ o. Contains rescue (step o 0 1)) Start o (1, omega arith, refl) (step_of_uncycled leaving stuck stuck_table 0 1 o (nothing_cycled 0 1) g)) r n h l)
-    (λ r n m h l k g. unwatched leaving no_monitors (Contains rescue (Cell Monitor r n m.interval_ms m.role)) r m k)
+    (λ r n m h l k g. unwatched leaving no_monitors (Contains rescue (Operation Monitor r n m.interval_ms m.role)) r m k)
     (is_never_sent leaving stuck stuck_table none_migrates)
 
 fenced_then_started : AreNumbered leaving (Needed leaving stuck stuck_table) rescue

@@ -3,7 +3,7 @@ use Rattle.std.proofs.Common.{arith, ◌≡◌, zero, suc, pos, neg_ℤ, Bool, t
 use Rattle.std.specs.Prelude.{codes}
 use Rattle.cluster_types.specs.declared.cluster.Cluster.{Cluster}
 use Rattle.cluster_types.specs.declared.journal.Action.{Action}
-use Rattle.cluster_types.specs.declared.journal.Action.TheVariants.{Fence, Probe, Cell, MigrateTo, MigrateFrom}
+use Rattle.cluster_types.specs.declared.journal.Action.TheVariants.{Fence, Probe, Operation, MigrateTo, MigrateFrom}
 use Rattle.cluster_types.specs.declared.journal.Answer.TheVariants as answer
 use Rattle.cluster_types.specs.declared.journal.Event.{Event}
 use Rattle.cluster_types.specs.declared.journal.Event.TheVariants.{Lost, Begin, Ended}
@@ -103,7 +103,7 @@ start_is_no_promote = refl
 
 -- a migration in an order: the then is stopped before the leaf is sent, and started after it was taken in
 abbrev moving : List Action
-moving = step Stop 1 0 ∷ MigrateTo 0 0 1 ∷ MigrateFrom 0 0 1 ∷ step Stop 0 0 ∷ step Start 1 1 ∷ Cell Monitor 0 1 10000 role.Started ∷ []
+moving = step Stop 1 0 ∷ MigrateTo 0 0 1 ∷ MigrateFrom 0 0 1 ∷ step Stop 0 0 ∷ step Start 1 1 ∷ Operation Monitor 0 1 10000 role.Started ∷ []
 
 abbrev in_order : Cluster
 in_order = with_order (ordered kind.Mandatory Start Start true)
@@ -117,7 +117,7 @@ stopped_after_taken_in = refl
 then_after_taken_in : predecessors in_order moving (step Start 1 1) ≡ step Stop 1 0 ∷ MigrateFrom 0 0 1 ∷ []
 then_after_taken_in = refl
 
-watched_after_taken_in : predecessors in_order moving (Cell Monitor 0 1 10000 role.Started) ≡ MigrateFrom 0 0 1 ∷ []
+watched_after_taken_in : predecessors in_order moving (Operation Monitor 0 1 10000 role.Started) ≡ MigrateFrom 0 0 1 ∷ []
 watched_after_taken_in = refl
 
 -- the stops of migrating leaves have no rank
@@ -180,13 +180,13 @@ lost_once : applies_after two (runs ++ Lost 1 ∷ []) [] 0 (answer.Lost 1) ≡ f
 lost_once = refl
 
 -- codes of promoted monitors
-silent_promoted : silent_code (Cell Monitor 0 0 10 role.Promoted) ≡ 8
+silent_promoted : silent_code (Operation Monitor 0 0 10 role.Promoted) ≡ 8
 silent_promoted = refl
 
-degraded_promoted : is_success two (Cell Monitor 0 0 10 role.Promoted) (Code 191) ≡ true
+degraded_promoted : is_success two (Operation Monitor 0 0 10 role.Promoted) (Code 191) ≡ true
 degraded_promoted = refl
 
-started_is_no_success : is_success two (Cell Monitor 0 0 10 role.Promoted) (Code 0) ≡ false
+started_is_no_success : is_success two (Operation Monitor 0 0 10 role.Promoted) (Code 0) ≡ false
 started_is_no_success = refl
 
 -- a then that is stopped and started again disturbs its own then

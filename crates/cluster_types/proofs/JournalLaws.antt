@@ -5,7 +5,7 @@ use Rattle.std.specs.List.{list_all, filter_map, cons_option, last_or, flat_map,
 use Rattle.std.proofs.lemmas.Bool.{and_from}
 use Rattle.lemmas.proofs.Booleans.{sooner, later, both}
 use Rattle.cluster_types.specs.declared.cluster.Cluster.{Cluster}
-use Rattle.cluster_types.specs.declared.journal.Action.TheVariants.{Probe, Cell}
+use Rattle.cluster_types.specs.declared.journal.Action.TheVariants.{Probe, Operation}
 use Rattle.cluster_types.specs.declared.journal.Event.{Event}
 use Rattle.cluster_types.specs.declared.journal.Event.TheVariants.{Up, Down, Lost, Quorum, Wait, Cleanup, Begin, Ended}
 use Rattle.cluster_types.proofs.Booleans.{clash}
@@ -95,13 +95,13 @@ joined_of_all n nodes h = joined_among n 0 nodes (grind arith) (grind arith)
 -- what a status tells shows no sign of a node, and wants only nodes of the cluster
 no_sign : (n nodes : ℕ) (e : Event) → is_history_event nodes e ≡ true → sign_of n e ≡ None
 no_sign n nodes (Ended k (Probe leaf node) o moment) h = refl
-no_sign n nodes (Ended k (Cell op leaf node interval role) o moment) h = refl
+no_sign n nodes (Ended k (Operation op leaf node interval role) o moment) h = refl
 no_sign n nodes (Cleanup leaf node) h = refl
 no_sign n nodes _ h = cc
 
 node_known : (n nodes : ℕ) (e : Event) → is_history_event nodes e ≡ true → wants_node n e ≡ true → n < nodes
 node_known n nodes (Ended k (Probe leaf node) o moment) h w = grind arith
-node_known n nodes (Ended k (Cell op leaf node interval role) o moment) h w = grind arith
+node_known n nodes (Ended k (Operation op leaf node interval role) o moment) h w = grind arith
 node_known n nodes _ h w = cc
 
 unsigned : (o : Option NodeSign) (rest : List NodeSign) → o ≡ None → rest ≡ [] → cons_option o rest ≡ []

@@ -2,7 +2,7 @@
 use Rattle.std.proofs.Common.{◌≡◌, List, [], ◌∷◌, refl}
 use Rattle.std.specs.Prelude.{codes}
 use Rattle.cluster_types.specs.declared.cluster.Cluster.{Cluster}
-use Rattle.cluster_types.specs.declared.journal.Action.TheVariants.{Fence, Probe, Cell}
+use Rattle.cluster_types.specs.declared.journal.Action.TheVariants.{Fence, Probe, Operation}
 use Rattle.cluster_types.specs.declared.journal.Answer.TheVariants as answer
 use Rattle.cluster_types.specs.declared.journal.Event.{Event}
 use Rattle.cluster_types.specs.declared.journal.Event.TheVariants.{Up, Lost, Begin, Ended}
@@ -53,10 +53,10 @@ before_the_loss = refl
 gone_prints_nothing : event_lines (Ended 2 (Probe 0 1) Gone 1000) ≡ []
 gone_prints_nothing = refl
 
-report_prints : event_lines (Ended 0 (Cell Monitor 0 1 10 role.Started) (Code 7) 5) ≡ line.Taken (answer.Report 1 0 10 7) ∷ []
+report_prints : event_lines (Ended 0 (Operation Monitor 0 1 10 role.Started) (Code 7) 5) ≡ line.Taken (answer.Report 1 0 10 7) ∷ []
 report_prints = refl
 
-end_prints : event_lines (Ended 3 (Cell Monitor 0 1 10 role.Started) (Code 7) 5) ≡ line.Taken (answer.End 3 7) ∷ []
+end_prints : event_lines (Ended 3 (Operation Monitor 0 1 10 role.Started) (Code 7) 5) ≡ line.Taken (answer.End 3 7) ∷ []
 end_prints = refl
 
 middle : between 1 3 (Up 0 ∷ Up 1 ∷ Up 2 ∷ Up 3 ∷ []) ≡ Up 1 ∷ Up 2 ∷ []

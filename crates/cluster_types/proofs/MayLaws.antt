@@ -3,7 +3,7 @@ use Rattle.std.proofs.Common.{◌≡◌, ℕ, Bool, true, false, not, ◌&&◌, 
 use Rattle.std.specs.List.{list_all}
 use Rattle.lemmas.proofs.Booleans.{later, both, one_of, contrary}
 use Rattle.cluster_types.specs.declared.cluster.Cluster.{Cluster}
-use Rattle.cluster_types.specs.declared.journal.Action.TheVariants.{Probe, Cell}
+use Rattle.cluster_types.specs.declared.journal.Action.TheVariants.{Probe, Operation}
 use Rattle.cluster_types.specs.declared.journal.Event.{Event}
 use Rattle.cluster_types.specs.declared.journal.Event.TheVariants.{Up, Begin, Ended}
 use Rattle.cluster_types.specs.declared.journal.Outcome.{Outcome}
@@ -38,17 +38,17 @@ not_stopped_monitor Gone h = cc
 -- event by event: what promotes opens
 promotes_opens : (r n : ℕ) (e : Event) → promotes_cell r n e ≡ true → opens_cell r n e ≡ true
 promotes_opens r n (Up node) h = h
-promotes_opens r n (Begin k (Cell Promote leaf node interval role)) h = h
-promotes_opens r n (Ended k (Cell Promote leaf node interval role) o moment) h = h
+promotes_opens r n (Begin k (Operation Promote leaf node interval role)) h = h
+promotes_opens r n (Ended k (Operation Promote leaf node interval role) o moment) h = h
 promotes_opens r n (Ended k (Probe leaf node) o moment) h = both (leaf == r && node == n) (leaf == r && node == n) _ _ (λ k. k) (not_stopped o) h
-promotes_opens r n (Ended k (Cell Monitor leaf node interval role) o moment) h = both (leaf == r && node == n) (leaf == r && node == n) _ _ (λ k. k) (not_stopped_monitor o) h
+promotes_opens r n (Ended k (Operation Monitor leaf node interval role) o moment) h = both (leaf == r && node == n) (leaf == r && node == n) _ _ (λ k. k) (not_stopped_monitor o) h
 promotes_opens r n _ h = cc
 
 -- and what closes demotes
 closes_demotes : (r n : ℕ) (e : Event) → closes_cell r n e ≡ true → demotes_cell r n e ≡ true
-closes_demotes r n (Ended k (Cell Stop leaf node interval role) o moment) h = h
+closes_demotes r n (Ended k (Operation Stop leaf node interval role) o moment) h = h
 closes_demotes r n (Ended k (Probe leaf node) o moment) h = both (leaf == r && node == n) (leaf == r && node == n) _ _ (λ k. k) (stopped_probe o) h
-closes_demotes r n (Ended k (Cell Monitor leaf node interval role) o moment) h = both (leaf == r && node == n) (leaf == r && node == n) _ _ (λ k. k) (stopped_monitor o) h
+closes_demotes r n (Ended k (Operation Monitor leaf node interval role) o moment) h = both (leaf == r && node == n) (leaf == r && node == n) _ _ (λ k. k) (stopped_monitor o) h
 closes_demotes r n _ h = cc
 
 all_kept : {X : Type 0} (p q : X → Bool) (xs : List X) → ((x : X) → p x ≡ true → q x ≡ true) → list_all p xs ≡ true → list_all q xs ≡ true

@@ -5,7 +5,7 @@ use Rattle.std.specs.Fmt.{digits}
 use Rattle.lemmas.proofs.Searches.{of_none}
 use Rattle.cluster_types.specs.declared.cluster.Cluster.{Cluster}
 use Rattle.cluster_types.specs.declared.journal.Action.{Action}
-use Rattle.cluster_types.specs.declared.journal.Action.TheVariants.{Fence, Probe, Cell, MigrateTo, MigrateFrom}
+use Rattle.cluster_types.specs.declared.journal.Action.TheVariants.{Fence, Probe, Operation, MigrateTo, MigrateFrom}
 use Rattle.cluster_types.specs.declared.journal.Event.{Event}
 use Rattle.cluster_types.specs.declared.journal.Event.TheVariants.{Begin, Ended}
 use Rattle.cluster_types.specs.declared.journal.Outcome.TheVariants.{Code}
@@ -105,7 +105,7 @@ nothing_more a (kept _ f k) = of_first_set machine runs_on_n1 table (λ a. a ≢
     (step_of_uncycled machine runs_on_n1 table 0 0 o (nothing_cycled 0 0) g))
     (λ g. of_one (λ o. step o 0 1 ≢ step Start 0 1 → Contains migration (step o 0 1)) Start o (λ d. absurd (d refl))
     (step_of_uncycled machine runs_on_n1 table 0 1 o (nothing_cycled 0 1) g)) r n h l)
-    (λ r n m h l y g. unwatched machine no_monitors (Cell Monitor r n m.interval_ms m.role ≢ step Start 0 1 → Contains migration (Cell Monitor r n m.interval_ms m.role)) r m y)
+    (λ r n m h l y g. unwatched machine no_monitors (Operation Monitor r n m.interval_ms m.role ≢ step Start 0 1 → Contains migration (Operation Monitor r n m.interval_ms m.role)) r m y)
     a f (k 0 0 1 it_migrates)
 nothing_more _ (sent r n m g) = only_so r n m g (λ r n m. Contains migration (MigrateTo r n m)) (0, omega arith, refl)
 nothing_more _ (taken_in r n m g) = only_so r n m g (λ r n m. Contains migration (MigrateFrom r n m)) (1, omega arith, refl)
@@ -182,7 +182,7 @@ nothing_more_then = of_needed machine left_open open_table (Contains restart)
     (λ g. of_one (λ o. Contains restart (step o 0 0)) Stop o (0, omega arith, refl) (step_of_uncycled machine left_open open_table 0 0 o not_cycled_on_n1 g))
     (λ g. of_two (λ o. Contains restart (step o 0 1)) Stop Start o (1, omega arith, refl) (2, omega arith, refl)
     (step_of_uncycled machine left_open open_table 0 1 o not_cycled_on_n2 g)) r n h l)
-    (λ r n m h l k g. unwatched machine no_monitors (Contains restart (Cell Monitor r n m.interval_ms m.role)) r m k)
+    (λ r n m h l k g. unwatched machine no_monitors (Contains restart (Operation Monitor r n m.interval_ms m.role)) r m k)
     no_second_sending
 
 then_the_plan : AreNumbered machine (Needed machine left_open open_table) restart

@@ -4,7 +4,7 @@ use Rattle.std.specs.Prelude.{length, nat_lt, Contains}
 use Rattle.lemmas.proofs.Searches.{of_none}
 use Rattle.cluster_types.specs.declared.cluster.Cluster.{Cluster}
 use Rattle.cluster_types.specs.declared.journal.Action.{Action}
-use Rattle.cluster_types.specs.declared.journal.Action.TheVariants.{Fence, Probe, Cell}
+use Rattle.cluster_types.specs.declared.journal.Action.TheVariants.{Fence, Probe, Operation}
 use Rattle.cluster_types.specs.declared.journal.Event.{Event}
 use Rattle.cluster_types.specs.declared.leaf.Monitor.{Monitor as MonitorOf}
 use Rattle.cluster_types.specs.declared.leaf.Op.{Op}
@@ -44,7 +44,7 @@ module _ (c : Cluster) (es : List Event) (targets : Targets) where
   step_of_uncycled r n o still (inr g) = g.1
 
   -- what is done to a cell is of a leaf and a node of the cluster
-  pub bounds_of_first : (o : Op) (r n i : ℕ) (given : Role) → NeededBeforeMigration c es targets (Cell o r n i given) → (r < length c.leaves) × (n < length c.nodes)
+  pub bounds_of_first : (o : Op) (r n i : ℕ) (given : Role) → NeededBeforeMigration c es targets (Operation o r n i given) → (r < length c.leaves) × (n < length c.nodes)
   bounds_of_first _ _ _ _ _ (step r n o h l g) = (h, l)
   bounds_of_first _ _ _ _ _ (monitor r n m h l k g) = (h, l)
 
@@ -55,9 +55,9 @@ module _ (c : Cluster) (es : List Event) (targets : Targets) where
   -- what is needed where no leaf migrates is a fence, a probe, a step of a cell or a monitor
   module _ (P : Action → Type 0) (fenced : (n : ℕ) → n < length c.nodes → is_to_be_fenced c n es ≡ true → P (Fence n))
       (asked : (r n : ℕ) → r < length c.leaves → n < length c.nodes → is_unprobed_state (cell_state c r n es) ≡ true → P (Probe r n))
-      (changed : (r n : ℕ) (o : Op) → r < length c.leaves → n < length c.nodes → GetsStep c es targets r n o → P (Cell o r n 0 role.Started))
+      (changed : (r n : ℕ) (o : Op) → r < length c.leaves → n < length c.nodes → GetsStep c es targets r n o → P (Operation o r n 0 role.Started))
       (watched : (r n : ℕ) (m : MonitorOf) → r < length c.leaves → n < length c.nodes → Contains (monitors c r) m → NeedsMonitor c es targets r n m
-      → P (Cell Monitor r n m.interval_ms m.role)) where
+      → P (Operation Monitor r n m.interval_ms m.role)) where
     pub of_first_set : (a : Action) → NeededBeforeMigration c es targets a → P a
     of_first_set _ (fence n h e) = fenced n h e
     of_first_set _ (probe r n h l e) = asked r n h l e

@@ -9,7 +9,7 @@ use Rattle.lemmas.proofs.Searches.{passes_by}
 use Rattle.lemmas.proofs.Booleans.{same_test}
 use Rattle.cluster_types.specs.declared.cluster.Cluster.{Cluster}
 use Rattle.cluster_types.specs.declared.journal.Action.{Action}
-use Rattle.cluster_types.specs.declared.journal.Action.TheVariants.{Fence, Probe, Cell, MigrateTo, MigrateFrom}
+use Rattle.cluster_types.specs.declared.journal.Action.TheVariants.{Fence, Probe, Operation, MigrateTo, MigrateFrom}
 use Rattle.cluster_types.specs.declared.leaf.Op.TheVariants as op
 use Rattle.cluster_types.specs.Numbers.{AreNumbered, Place, is_place_before, is_earlier, action_place}
 use Rattle.cluster_types.specs.Precedence.{is_migrating, sends}
@@ -60,11 +60,11 @@ module _ (c : Cluster) (xs ys : List Action) (to : (a : Action) → Contains xs 
   pub same_place : (a : Action) → action_place c xs a ≡ action_place c ys a
   same_place (Fence n) = refl
   same_place (Probe r n) = refl
-  same_place (Cell op.Start r n interval role) = refl
-  same_place (Cell op.Stop r n interval role) = rw (same_migrating r) refl
-  same_place (Cell op.Promote r n interval role) = refl
-  same_place (Cell op.Demote r n interval role) = refl
-  same_place (Cell op.Monitor r n interval role) = refl
+  same_place (Operation op.Start r n interval role) = refl
+  same_place (Operation op.Stop r n interval role) = rw (same_migrating r) refl
+  same_place (Operation op.Promote r n interval role) = refl
+  same_place (Operation op.Demote r n interval role) = refl
+  same_place (Operation op.Monitor r n interval role) = refl
   same_place (MigrateTo r source target) = refl
   same_place (MigrateFrom r source target) = refl
 

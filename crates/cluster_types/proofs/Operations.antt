@@ -2,7 +2,7 @@
 use Rattle.std.proofs.Common.{◌≡◌, ◌≢◌, if◌then◌else◌, ℕ, Bool, true, false, Option, Some, None, List, [], ◌∷◌, Contains, refl, subst, ap}
 use Rattle.lemmas.proofs.Members.{at_head, in_rest}
 use Rattle.cluster_types.specs.declared.journal.Action.{Action}
-use Rattle.cluster_types.specs.declared.journal.Action.TheVariants.{Fence, Probe, Cell, MigrateTo, MigrateFrom}
+use Rattle.cluster_types.specs.declared.journal.Action.TheVariants.{Fence, Probe, Operation, MigrateTo, MigrateFrom}
 use Rattle.cluster_types.specs.declared.leaf.Op.{Op}
 use Rattle.cluster_types.specs.declared.leaf.Op.TheVariants as op
 use Rattle.cluster_types.specs.declared.leaf.Role.{Role}
@@ -68,16 +68,16 @@ pub moved : (P : ℕ → ℕ → Type 0) (r n : ℕ) (a : CellOf) → cell_of r 
 moved P r n a h p = subst (λ v. P v a.node) (leaf_is r n a h) (subst (λ v. P r v) (node_is r n a h) p)
 
 operation_on : (o p : Op) (r n i : ℕ) (role : Role) (a : CellOf) (b : Bool) → is_same_op o p ≡ b → (if b then cell_of r n else None) ≡ Some a
-    → IsOperation o (Cell p r n i role) a.leaf a.node
+    → IsOperation o (Operation p r n i role) a.leaf a.node
 operation_on o p r n i role a true e h =
     let word : o ≡ p = same_op o p e in
-    moved (IsOperation o (Cell p r n i role)) r n a h (subst (λ v. IsOperation o (Cell v r n i role) r n) word (operation r n i role))
+    moved (IsOperation o (Operation p r n i role)) r n a h (subst (λ v. IsOperation o (Operation v r n i role) r n) word (operation r n i role))
 operation_on o p r n i role a false e h = cc
 
 pub operation_at : (o : Op) (x : Action) (a : CellOf) → op_cell o x ≡ Some a → IsOperation o x a.leaf a.node
 operation_at o (Fence n) a h = cc
 operation_at o (Probe r n) a h = cc
-operation_at o (Cell p r n i role) a h = operation_on o p r n i role a (is_same_op o p) refl h
+operation_at o (Operation p r n i role) a h = operation_on o p r n i role a (is_same_op o p) refl h
 operation_at o (MigrateTo r s t) a h = cc
 operation_at o (MigrateFrom r s t) a h = cc
 
@@ -89,7 +89,7 @@ pub first_at : (o : Op) (x : Action) (a : CellOf) → as_earlier o x ≡ Some a 
 first_at op.Start (MigrateFrom r s t) a h = moved (CountsAsFirst op.Start (MigrateFrom r s t)) r t a h (first_taken_in r s t)
 first_at op.Start (Fence n) a h = cc
 first_at op.Start (Probe r n) a h = cc
-first_at op.Start (Cell p r n i role) a h = first_itself op.Start (Cell p r n i role) a.leaf a.node (operation_at op.Start (Cell p r n i role) a h)
+first_at op.Start (Operation p r n i role) a h = first_itself op.Start (Operation p r n i role) a.leaf a.node (operation_at op.Start (Operation p r n i role) a h)
 first_at op.Start (MigrateTo r s t) a h = cc
 first_at op.Stop x a h = first_itself op.Stop x a.leaf a.node (operation_at op.Stop x a h)
 first_at op.Promote x a h = first_itself op.Promote x a.leaf a.node (operation_at op.Promote x a h)
@@ -110,10 +110,10 @@ cell_of_first _ _ _ _ (first_taken_in r s t) = refl
 module _ (actions : List Action) where
   -- as the later
   stop_on : (r n i : ℕ) (role : Role) (a : CellOf) (b : Bool) → is_migrating actions r ≡ b → (if b then None else cell_of r n) ≡ Some a
-      → CountsAsLater actions op.Stop (Cell op.Stop r n i role) a.leaf a.node
+      → CountsAsLater actions op.Stop (Operation op.Stop r n i role) a.leaf a.node
   stop_on r n i role a true e h = cc
   stop_on r n i role a false e h =
-      moved (CountsAsLater actions op.Stop (Cell op.Stop r n i role)) r n a h (later_itself op.Stop (Cell op.Stop r n i role) r n (operation r n i role) (λ k. e))
+      moved (CountsAsLater actions op.Stop (Operation op.Stop r n i role)) r n a h (later_itself op.Stop (Operation op.Stop r n i role) r n (operation r n i role) (λ k. e))
 
   start_on : (y : Action) (a : CellOf) → op_cell op.Start y ≡ Some a → CountsAsLater actions op.Start y a.leaf a.node
   start_on y a h = later_itself op.Start y a.leaf a.node (operation_at op.Start y a h) (λ k. cc)
@@ -121,16 +121,16 @@ module _ (actions : List Action) where
   pub later_at : (o : Op) (y : Action) (a : CellOf) → as_later actions o y ≡ Some a → CountsAsLater actions o y a.leaf a.node
   later_at op.Start (Fence n) a h = cc
   later_at op.Start (Probe r n) a h = cc
-  later_at op.Start (Cell p r n i role) a h = start_on (Cell p r n i role) a h
+  later_at op.Start (Operation p r n i role) a h = start_on (Operation p r n i role) a h
   later_at op.Start (MigrateTo r s t) a h = moved (CountsAsLater actions op.Start (MigrateTo r s t)) r t a h (later_sent_to r s t)
   later_at op.Start (MigrateFrom r s t) a h = cc
   later_at op.Stop (Fence n) a h = cc
   later_at op.Stop (Probe r n) a h = cc
-  later_at op.Stop (Cell op.Start r n i role) a h = cc
-  later_at op.Stop (Cell op.Stop r n i role) a h = stop_on r n i role a (is_migrating actions r) refl h
-  later_at op.Stop (Cell op.Promote r n i role) a h = cc
-  later_at op.Stop (Cell op.Demote r n i role) a h = cc
-  later_at op.Stop (Cell op.Monitor r n i role) a h = cc
+  later_at op.Stop (Operation op.Start r n i role) a h = cc
+  later_at op.Stop (Operation op.Stop r n i role) a h = stop_on r n i role a (is_migrating actions r) refl h
+  later_at op.Stop (Operation op.Promote r n i role) a h = cc
+  later_at op.Stop (Operation op.Demote r n i role) a h = cc
+  later_at op.Stop (Operation op.Monitor r n i role) a h = cc
   later_at op.Stop (MigrateTo r s t) a h = moved (CountsAsLater actions op.Stop (MigrateTo r s t)) r s a h (later_sent_off r s t)
   later_at op.Stop (MigrateFrom r s t) a h = cc
   later_at op.Promote y a h = later_itself op.Promote y a.leaf a.node (operation_at op.Promote y a h) (λ k. cc)
@@ -160,11 +160,11 @@ module _ (actions : List Action) where
   pub given_at : (y : Action) (a : CellOf) → gives_any y ≡ Some a → GivesSome y a.leaf a.node
   given_at (Fence n) a h = cc
   given_at (Probe r n) a h = cc
-  given_at (Cell op.Start r n i played) a h = started_at (Cell op.Start r n i played) a h
-  given_at (Cell op.Stop r n i played) a h = cc
-  given_at (Cell op.Promote r n i played) a h = record { given = role.Promoted; stands = later_at op.Promote (Cell op.Promote r n i played) a h }
-  given_at (Cell op.Demote r n i played) a h = cc
-  given_at (Cell op.Monitor r n i played) a h = cc
+  given_at (Operation op.Start r n i played) a h = started_at (Operation op.Start r n i played) a h
+  given_at (Operation op.Stop r n i played) a h = cc
+  given_at (Operation op.Promote r n i played) a h = record { given = role.Promoted; stands = later_at op.Promote (Operation op.Promote r n i played) a h }
+  given_at (Operation op.Demote r n i played) a h = cc
+  given_at (Operation op.Monitor r n i played) a h = cc
   given_at (MigrateTo r s t) a h = started_at (MigrateTo r s t) a h
   given_at (MigrateFrom r s t) a h = cc
 
@@ -186,19 +186,19 @@ stop_taken = in_rest op.Demote (op.Stop ∷ []) op.Stop (at_head op.Stop [] op.S
 pub taken_at : (held : Role) (x : Action) (a : CellOf) → takes_or_probes held x ≡ Some a → TakesOrAsks held x a.leaf a.node
 taken_at role.Started (Probe r n) a h = moved (TakesOrAsks role.Started (Probe r n)) r n a h (asks r n)
 taken_at role.Started (Fence n) a h = cc
-taken_at role.Started (Cell o r n i given) a h =
-    takes op.Stop (Cell o r n i given) a.leaf a.node (at_head op.Stop [] op.Stop refl) (operation_at op.Stop (Cell o r n i given) a h)
+taken_at role.Started (Operation o r n i given) a h =
+    takes op.Stop (Operation o r n i given) a.leaf a.node (at_head op.Stop [] op.Stop refl) (operation_at op.Stop (Operation o r n i given) a h)
 taken_at role.Started (MigrateTo r s t) a h = cc
 taken_at role.Started (MigrateFrom r s t) a h = cc
 taken_at role.Promoted (Probe r n) a h = moved (TakesOrAsks role.Promoted (Probe r n)) r n a h (asks r n)
 taken_at role.Promoted (Fence n) a h = cc
-taken_at role.Promoted (Cell op.Start r n i given) a h = cc
-taken_at role.Promoted (Cell op.Stop r n i given) a h =
-    takes op.Stop (Cell op.Stop r n i given) a.leaf a.node stop_taken (operation_at op.Stop (Cell op.Stop r n i given) a h)
-taken_at role.Promoted (Cell op.Promote r n i given) a h = cc
-taken_at role.Promoted (Cell op.Demote r n i given) a h =
-    takes op.Demote (Cell op.Demote r n i given) a.leaf a.node (at_head op.Demote (op.Stop ∷ []) op.Demote refl) (operation_at op.Demote (Cell op.Demote r n i given) a h)
-taken_at role.Promoted (Cell op.Monitor r n i given) a h = cc
+taken_at role.Promoted (Operation op.Start r n i given) a h = cc
+taken_at role.Promoted (Operation op.Stop r n i given) a h =
+    takes op.Stop (Operation op.Stop r n i given) a.leaf a.node stop_taken (operation_at op.Stop (Operation op.Stop r n i given) a h)
+taken_at role.Promoted (Operation op.Promote r n i given) a h = cc
+taken_at role.Promoted (Operation op.Demote r n i given) a h =
+    takes op.Demote (Operation op.Demote r n i given) a.leaf a.node (at_head op.Demote (op.Stop ∷ []) op.Demote refl) (operation_at op.Demote (Operation op.Demote r n i given) a h)
+taken_at role.Promoted (Operation op.Monitor r n i given) a h = cc
 taken_at role.Promoted (MigrateTo r s t) a h = cc
 taken_at role.Promoted (MigrateFrom r s t) a h = cc
 
@@ -226,17 +226,17 @@ pub record Changes (x : Action) (r n : ℕ) : Type 0 where
   pub changes : what ≢ op.Monitor
   pub is : IsOperation what x r n
 
-changed_on : (o : Op) (r n i : ℕ) (given : Role) (a : CellOf) → o ≢ op.Monitor → cell_of r n ≡ Some a → Changes (Cell o r n i given) a.leaf a.node
-changed_on o r n i given a changes h = moved (Changes (Cell o r n i given)) r n a h (record { what = o; changes = changes; is = operation r n i given })
+changed_on : (o : Op) (r n i : ℕ) (given : Role) (a : CellOf) → o ≢ op.Monitor → cell_of r n ≡ Some a → Changes (Operation o r n i given) a.leaf a.node
+changed_on o r n i given a changes h = moved (Changes (Operation o r n i given)) r n a h (record { what = o; changes = changes; is = operation r n i given })
 
 pub changed_at : (x : Action) (a : CellOf) → change_cell x ≡ Some a → Changes x a.leaf a.node
 changed_at (Fence n) a h = cc
 changed_at (Probe r n) a h = cc
-changed_at (Cell op.Start r n i given) a h = changed_on op.Start r n i given a (λ k. cc) h
-changed_at (Cell op.Stop r n i given) a h = changed_on op.Stop r n i given a (λ k. cc) h
-changed_at (Cell op.Promote r n i given) a h = changed_on op.Promote r n i given a (λ k. cc) h
-changed_at (Cell op.Demote r n i given) a h = changed_on op.Demote r n i given a (λ k. cc) h
-changed_at (Cell op.Monitor r n i given) a h = cc
+changed_at (Operation op.Start r n i given) a h = changed_on op.Start r n i given a (λ k. cc) h
+changed_at (Operation op.Stop r n i given) a h = changed_on op.Stop r n i given a (λ k. cc) h
+changed_at (Operation op.Promote r n i given) a h = changed_on op.Promote r n i given a (λ k. cc) h
+changed_at (Operation op.Demote r n i given) a h = changed_on op.Demote r n i given a (λ k. cc) h
+changed_at (Operation op.Monitor r n i given) a h = cc
 changed_at (MigrateTo r s t) a h = cc
 changed_at (MigrateFrom r s t) a h = cc
 

@@ -6,7 +6,8 @@ use Rattle.std.proofs.lemmas.Bool.{and_from}
 use Rattle.lemmas.proofs.Booleans.{sooner, later}
 use Rattle.lemmas.proofs.Searches.{passes_by}
 use Rattle.edges.specs.declared.edge.Edge.{Edge}
-use Rattle.cluster_types.specs.Graphs.{GraphOf, IsGraph, IsBefore, is_before, is_action_number, LeadUpward, LeadsByGates, direct, through, leads_by_gates_within, leads_by}
+use Rattle.cluster_types.specs.Graphs.{GraphOf, IsGraph, IsBefore, is_before, is_action_number, LeadUpward, LeadsByGates, direct, through, leads_by_gates_within}
+use Rattle.cluster_types.specs.Inner.Walks.{leads_by}
 use Rattle.edges.specs.Loops.{EndsWithin}
 
 pub leads_by_one : (most actions : ℕ) (edges : List Edge) (x y : ℕ) → most ≢ 0

@@ -8,7 +8,7 @@ use Rattle.lemmas.proofs.Members.{at_head, in_rest}
 use Rattle.lemmas.proofs.Searches.{passes_by}
 use Rattle.cluster_types.specs.declared.cluster.Cluster.{Cluster}
 use Rattle.cluster_types.specs.declared.journal.Action.{Action}
-use Rattle.cluster_types.specs.declared.journal.Action.TheVariants.{Fence, Probe, Cell, MigrateTo, MigrateFrom}
+use Rattle.cluster_types.specs.declared.journal.Action.TheVariants.{Fence, Probe, Operation, MigrateTo, MigrateFrom}
 use Rattle.cluster_types.specs.declared.leaf.Op.{Op}
 use Rattle.cluster_types.specs.declared.leaf.Op.TheVariants as op
 use Rattle.cluster_types.specs.declared.leaf.Role.{Role}
@@ -53,7 +53,7 @@ module _ (c : Cluster) (actions : List Action) (is_earlier : Action → Action �
       let one : b.leaf ≡ r = rw (leaf_is r n a h) (sym (eqb-true a.leaf b.leaf e)) in
       precedes.probe r n b.node g.given y (subst (λ v. CountsAsLater actions (giver g.given) y v b.node) one g.stands)
   probe_case (Fence n) y a b h k e = cc
-  probe_case (Cell o r n i given) y a b h k e = cc
+  probe_case (Operation o r n i given) y a b h k e = cc
   probe_case (MigrateTo r s t) y a b h k e = cc
   probe_case (MigrateFrom r s t) y a b h k e = cc
 
@@ -77,7 +77,7 @@ module _ (c : Cluster) (actions : List Action) (is_earlier : Action → Action �
   fences_case : (x y : Action) → fences_first x y ≡ true → Before x y
   fences_case (Fence n) y h = fence_case n y (gives_any y) refl h
   fences_case (Probe r n) y h = cc
-  fences_case (Cell o r n i given) y h = cc
+  fences_case (Operation o r n i given) y h = cc
   fences_case (MigrateTo r s t) y h = cc
   fences_case (MigrateFrom r s t) y h = cc
 
@@ -212,30 +212,30 @@ module _ (c : Cluster) (actions : List Action) (is_earlier : Action → Action �
   migration_case : (x y : Action) → migrates_first x y ≡ true → Before x y
   migration_case (MigrateTo r f t) (MigrateFrom s g u) h =
       precedes.migration (MigrateTo r f t) (MigrateFrom s g u) (subst (λ v. MigratesInTurn (MigrateTo r f t) (MigrateFrom v g u)) (eqb-true r s h) (taken_in_later r f t g u))
-  migration_case (MigrateFrom r f t) (Cell op.Stop s n i given) h =
+  migration_case (MigrateFrom r f t) (Operation op.Stop s n i given) h =
       let (leaf, node) = and_parts (r == s) (n == f) h in
-      precedes.migration (MigrateFrom r f t) (Cell op.Stop s n i given)
-      (subst (λ v. MigratesInTurn (MigrateFrom r f t) (Cell op.Stop v n i given)) (eqb-true r s leaf)
-      (subst (λ v. MigratesInTurn (MigrateFrom r f t) (Cell op.Stop r v i given)) (sym (eqb-true n f node)) (stopped_later r f t i given)))
-  migration_case (MigrateFrom r f t) (Cell op.Monitor s n i given) h =
+      precedes.migration (MigrateFrom r f t) (Operation op.Stop s n i given)
+      (subst (λ v. MigratesInTurn (MigrateFrom r f t) (Operation op.Stop v n i given)) (eqb-true r s leaf)
+      (subst (λ v. MigratesInTurn (MigrateFrom r f t) (Operation op.Stop r v i given)) (sym (eqb-true n f node)) (stopped_later r f t i given)))
+  migration_case (MigrateFrom r f t) (Operation op.Monitor s n i given) h =
       let (leaf, node) = and_parts (r == s) (n == t) h in
-      precedes.migration (MigrateFrom r f t) (Cell op.Monitor s n i given)
-      (subst (λ v. MigratesInTurn (MigrateFrom r f t) (Cell op.Monitor v n i given)) (eqb-true r s leaf)
-      (subst (λ v. MigratesInTurn (MigrateFrom r f t) (Cell op.Monitor r v i given)) (sym (eqb-true n t node)) (watched_later r f t i given)))
-  migration_case (MigrateFrom r f t) (Cell op.Start s n i given) h = cc
-  migration_case (MigrateFrom r f t) (Cell op.Promote s n i given) h = cc
-  migration_case (MigrateFrom r f t) (Cell op.Demote s n i given) h = cc
+      precedes.migration (MigrateFrom r f t) (Operation op.Monitor s n i given)
+      (subst (λ v. MigratesInTurn (MigrateFrom r f t) (Operation op.Monitor v n i given)) (eqb-true r s leaf)
+      (subst (λ v. MigratesInTurn (MigrateFrom r f t) (Operation op.Monitor r v i given)) (sym (eqb-true n t node)) (watched_later r f t i given)))
+  migration_case (MigrateFrom r f t) (Operation op.Start s n i given) h = cc
+  migration_case (MigrateFrom r f t) (Operation op.Promote s n i given) h = cc
+  migration_case (MigrateFrom r f t) (Operation op.Demote s n i given) h = cc
   migration_case (MigrateFrom r f t) (Fence n) h = cc
   migration_case (MigrateFrom r f t) (Probe s n) h = cc
   migration_case (MigrateFrom r f t) (MigrateTo s g u) h = cc
   migration_case (MigrateFrom r f t) (MigrateFrom s g u) h = cc
   migration_case (MigrateTo r f t) (Fence n) h = cc
   migration_case (MigrateTo r f t) (Probe s n) h = cc
-  migration_case (MigrateTo r f t) (Cell o s n i given) h = cc
+  migration_case (MigrateTo r f t) (Operation o s n i given) h = cc
   migration_case (MigrateTo r f t) (MigrateTo s g u) h = cc
   migration_case (Fence n) y h = cc
   migration_case (Probe r n) y h = cc
-  migration_case (Cell o r n i given) y h = cc
+  migration_case (Operation o r n i given) y h = cc
 
   module _ (x y : Action) where
     abbrev by_separation : Bool

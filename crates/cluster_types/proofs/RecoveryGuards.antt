@@ -3,7 +3,7 @@ use Rattle.std.proofs.Common.{arith, ◌≡◌, zero, true, false, List, [], ◌
 use Rattle.std.specs.Prelude.{codes}
 use Rattle.cluster_types.specs.declared.cluster.Cluster.{Cluster}
 use Rattle.cluster_types.specs.declared.cluster.Policy.TheVariants as policy
-use Rattle.cluster_types.specs.declared.journal.Action.TheVariants.{Fence, Probe, Cell}
+use Rattle.cluster_types.specs.declared.journal.Action.TheVariants.{Fence, Probe, Operation}
 use Rattle.cluster_types.specs.declared.journal.Event.{Event}
 use Rattle.cluster_types.specs.declared.journal.Event.TheVariants.{Ended, Quorum, Up}
 use Rattle.cluster_types.specs.declared.journal.Outcome.TheVariants.{Code}
@@ -92,7 +92,7 @@ promoted_after_fences = refl
 promoted_after_other_stops : predecessors promotable (step Demote 0 1 ∷ step Stop 0 1 ∷ step Promote 0 0 ∷ []) (step Promote 0 0) ≡ step Demote 0 1 ∷ step Stop 0 1 ∷ []
 promoted_after_other_stops = refl
 
-watched_after_its_promote : predecessors promotable (step Promote 0 0 ∷ Cell Monitor 0 0 10000 role.Promoted ∷ []) (Cell Monitor 0 0 10000 role.Promoted) ≡ step Promote 0 0 ∷ []
+watched_after_its_promote : predecessors promotable (step Promote 0 0 ∷ Operation Monitor 0 0 10000 role.Promoted ∷ []) (Operation Monitor 0 0 10000 role.Promoted) ≡ step Promote 0 0 ∷ []
 watched_after_its_promote = refl
 
 -- a monitor is of the role of the target
@@ -106,13 +106,13 @@ started_is_not_watched_as_promoted : is_monitor_for role.Promoted target.Started
 started_is_not_watched_as_promoted = refl
 
 -- a promoted one that is found unpromoted is no failure, but no success either
-unpromoted_is_good : is_bad (Cell Monitor 0 0 10000 role.Promoted) (Code 0) ≡ false
+unpromoted_is_good : is_bad (Operation Monitor 0 0 10000 role.Promoted) (Code 0) ≡ false
 unpromoted_is_good = refl
 
-unpromoted_aborts : aborts promotable (Ended 1 (Cell Monitor 0 0 10000 role.Promoted) (Code 0) 1000) ≡ true
+unpromoted_aborts : aborts promotable (Ended 1 (Operation Monitor 0 0 10000 role.Promoted) (Code 0) 1000) ≡ true
 unpromoted_aborts = refl
 
-degraded_started : is_success promotable (Cell Monitor 0 0 10000 role.Started) (Code 190) ≡ true
+degraded_started : is_success promotable (Operation Monitor 0 0 10000 role.Started) (Code 190) ≡ true
 degraded_started = refl
 
 -- a stop before a stop is a start before a start the other way round

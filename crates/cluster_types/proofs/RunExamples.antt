@@ -4,7 +4,7 @@ use Rattle.std.specs.Prelude.{codes, nat_lt, Contains}
 use Rattle.lemmas.proofs.Searches.{of_none}
 use Rattle.cluster_types.specs.declared.cluster.Cluster.{Cluster}
 use Rattle.cluster_types.specs.declared.journal.Action.{Action}
-use Rattle.cluster_types.specs.declared.journal.Action.TheVariants.{Fence, Probe, Cell}
+use Rattle.cluster_types.specs.declared.journal.Action.TheVariants.{Fence, Probe, Operation}
 use Rattle.cluster_types.specs.declared.journal.Answer.TheVariants as answer
 use Rattle.cluster_types.specs.declared.journal.Event.{Event}
 use Rattle.cluster_types.specs.declared.journal.Event.TheVariants.{Up, Begin, Ended}
@@ -70,7 +70,7 @@ nothing_more = of_needed one fresh fresh_table (Contains first_plan)
     (λ r n o h l. cells_of_one (λ r n. GetsStep one fresh fresh_table r n o → Contains first_plan (step o r n))
     (λ g. of_one (λ o. Contains first_plan (step o 0 0)) Start o (2, omega arith, refl) (step_of_uncycled one fresh fresh_table 0 0 o (nothing_cycled 0 0) g))
     (λ g. of_none (λ o. Contains first_plan (step o 0 1)) o (step_of_uncycled one fresh fresh_table 0 1 o (nothing_cycled 0 1) g)) r n h l)
-    (λ r n m h l k g. unwatched one no_monitors (Contains first_plan (Cell Monitor r n m.interval_ms m.role)) r m k)
+    (λ r n m h l k g. unwatched one no_monitors (Contains first_plan (Operation Monitor r n m.interval_ms m.role)) r m k)
     (is_never_sent one fresh fresh_table none_migrates)
 
 this_is_the_plan : AreNumbered one (Needed one fresh fresh_table) first_plan

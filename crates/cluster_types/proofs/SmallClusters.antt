@@ -5,7 +5,7 @@ use Rattle.cluster_types.specs.declared.cluster.Cluster.{Cluster}
 use Rattle.cluster_types.specs.declared.cluster.Policy.TheVariants as policy
 use Rattle.cluster_types.specs.declared.cluster.Properties.{Properties}
 use Rattle.cluster_types.specs.declared.journal.Action.{Action}
-use Rattle.cluster_types.specs.declared.journal.Action.TheVariants.{Probe, Cell}
+use Rattle.cluster_types.specs.declared.journal.Action.TheVariants.{Probe, Operation}
 use Rattle.cluster_types.specs.declared.journal.Event.{Event}
 use Rattle.cluster_types.specs.declared.journal.Event.TheVariants.{Up, Quorum, Wait, Ended}
 use Rattle.cluster_types.specs.declared.journal.Outcome.TheVariants.{Code}
@@ -99,10 +99,10 @@ start_order id r s local = record {
 
 -- an operation of the history, with its exit code and its moment
 abbrev pub did : Op → ℕ → ℕ → ℕ → ℕ → Event
-did o r n code moment = Ended 0 (Cell o r n 0 role.Started) (Code code) moment
+did o r n code moment = Ended 0 (Operation o r n 0 role.Started) (Code code) moment
 
 abbrev pub monitored : ℕ → ℕ → ℕ → ℕ → ℕ → Event
-monitored r n interval code moment = Ended 0 (Cell Monitor r n interval role.Started) (Code code) moment
+monitored r n interval code moment = Ended 0 (Operation Monitor r n interval role.Started) (Code code) moment
 
 abbrev pub probed : ℕ → ℕ → ℕ → ℕ → Event
 probed r n code moment = Ended 0 (Probe r n) (Code code) moment
@@ -112,7 +112,7 @@ abbrev pub online : List Event → ℕ → List Event
 online history now = Up 0 ∷ Up 1 ∷ [] ++ history ++ Quorum true ∷ Wait now ∷ []
 
 abbrev pub step : Op → ℕ → ℕ → Action
-step o r n = Cell o r n 0 role.Started
+step o r n = Operation o r n 0 role.Started
 
 -- where nothing goes
 abbrev pub no_targets : Targets

@@ -5,7 +5,7 @@ use Rattle.std.specs.List.{list_any}
 use Rattle.std.specs.Option.{option_map_or}
 use Rattle.cluster_types.specs.declared.cluster.Cluster.{Cluster}
 use Rattle.cluster_types.specs.declared.journal.Action.{Action}
-use Rattle.cluster_types.specs.declared.journal.Action.TheVariants.{Cell}
+use Rattle.cluster_types.specs.declared.journal.Action.TheVariants.{Operation}
 use Rattle.cluster_types.specs.declared.journal.Answer.{Answer}
 use Rattle.cluster_types.specs.declared.journal.Answer.TheVariants as answer
 use Rattle.cluster_types.specs.declared.journal.Event.{Event}
@@ -40,7 +40,7 @@ role_of_interval ms interval = option_map_or (λ (m : MonitorOf). m.role) (find 
 
 -- a recurring monitor of the leaf on the node, as an action
 abbrev pub monitor_action : Cluster → ℕ → ℕ → ℕ → Action
-monitor_action c r n interval = Cell Monitor r n interval (role_of_interval (monitors c r) interval)
+monitor_action c r n interval = Operation Monitor r n interval (role_of_interval (monitors c r) interval)
 
 abbrev pub is_joined_sign : Option NodeSign → Bool
 is_joined_sign (Some joined) = true

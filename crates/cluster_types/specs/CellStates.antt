@@ -5,7 +5,7 @@ use Rattle.std.specs.List.{list_any, after_last, last_or}
 use Rattle.std.specs.Option.{option_map_or}
 use Rattle.cluster_types.specs.declared.cluster.Cluster.{Cluster}
 use Rattle.cluster_types.specs.declared.journal.Action.{Action}
-use Rattle.cluster_types.specs.declared.journal.Action.TheVariants.{Fence, Probe, Cell, MigrateTo}
+use Rattle.cluster_types.specs.declared.journal.Action.TheVariants.{Fence, Probe, Operation, MigrateTo}
 use Rattle.cluster_types.specs.declared.journal.Event.{Event}
 use Rattle.cluster_types.specs.declared.journal.Event.TheVariants.{Begin, Ended}
 use Rattle.cluster_types.specs.declared.leaf.Op.TheVariants.{Monitor}
@@ -60,7 +60,7 @@ cell_state c r n es =
 abbrev pub changes_cell : ℕ → ℕ → Action → Bool
 changes_cell r n (Fence node) = false
 changes_cell r n (Probe leaf node) = false
-changes_cell r n (Cell Monitor leaf node interval role) = false
+changes_cell r n (Operation Monitor leaf node interval role) = false
 changes_cell r n a = is_of_cell r n a
 
 -- the event ends what its monitors were doing: the node joined, the cell was cleaned up, or an action changed what runs there
@@ -70,7 +70,7 @@ ends_monitors r n (Ended k a o moment) = changes_cell r n a
 ends_monitors r n e = is_reset r n e
 
 abbrev pub is_end_of_monitor : ℕ → ℕ → ℕ → Event → Bool
-is_end_of_monitor r n interval (Ended k (Cell Monitor leaf node ms role) o moment) = is_of_cell r n (Cell Monitor leaf node ms role) && ms == interval
+is_end_of_monitor r n interval (Ended k (Operation Monitor leaf node ms role) o moment) = is_of_cell r n (Operation Monitor leaf node ms role) && ms == interval
 is_end_of_monitor r n interval _ = false
 
 -- the monitor of this interval is running: an outcome of it, an ignored one too, came after all that ended it

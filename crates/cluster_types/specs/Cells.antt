@@ -1,7 +1,7 @@
 -- Of which cell an action is. A cell is a leaf on a node (rule of this project).
 use Rattle.std.specs.Prelude.{ℕ, Bool, false, ◌==◌, ◌&&◌}
 use Rattle.cluster_types.specs.declared.journal.Action.{Action}
-use Rattle.cluster_types.specs.declared.journal.Action.TheVariants.{Fence, Probe, Cell, MigrateTo, MigrateFrom}
+use Rattle.cluster_types.specs.declared.journal.Action.TheVariants.{Fence, Probe, Operation, MigrateTo, MigrateFrom}
 use Rattle.cluster_types.specs.declared.journal.Event.{Event}
 use Rattle.cluster_types.specs.declared.journal.Event.TheVariants.{Up, Cleanup}
 
@@ -12,7 +12,7 @@ is_same_cell r n leaf node = leaf == r && node == n
 abbrev pub is_of_cell : ℕ → ℕ → Action → Bool
 is_of_cell r n (Fence node) = false
 is_of_cell r n (Probe leaf node) = is_same_cell r n leaf node
-is_of_cell r n (Cell op leaf node interval role) = is_same_cell r n leaf node
+is_of_cell r n (Operation op leaf node interval role) = is_same_cell r n leaf node
 is_of_cell r n (MigrateTo leaf source target) = is_same_cell r n leaf source
 is_of_cell r n (MigrateFrom leaf source target) = is_same_cell r n leaf target
 

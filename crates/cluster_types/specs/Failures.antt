@@ -3,7 +3,7 @@ use Rattle.std.specs.Prelude.{ℕ, ◌+◌, ◌*◌, min, nat_lt, int_lt, int_le
 use Rattle.std.specs.List.{list_any, after_last, last_or, range_with_len}
 use Rattle.std.specs.Option.{option_map_or}
 use Rattle.cluster_types.specs.declared.cluster.Cluster.{Cluster}
-use Rattle.cluster_types.specs.declared.journal.Action.TheVariants.{Cell}
+use Rattle.cluster_types.specs.declared.journal.Action.TheVariants.{Operation}
 use Rattle.cluster_types.specs.declared.journal.Event.{Event}
 use Rattle.cluster_types.specs.declared.journal.Event.TheVariants.{Ended}
 use Rattle.cluster_types.specs.declared.leaf.Op.TheVariants.{Start}
@@ -50,7 +50,7 @@ counted c r n es =
     if is_forgotten (failure_timeout c r) (moment_of es) (failures_in_force c r n es) then [] else failures_in_force c r n es
 
 abbrev pub is_start : Event → Bool
-is_start (Ended k (Cell Start leaf node interval role) o moment) = true
+is_start (Ended k (Operation Start leaf node interval role) o moment) = true
 is_start _ = false
 
 -- the fail count of a cell: how many failures count, up to INFINITY; one failed start is INFINITY where the cluster says so (Pacemaker Explained,

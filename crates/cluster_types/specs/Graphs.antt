@@ -22,10 +22,6 @@ leads_by_gates_within zero actions edges x y = false
 leads_by_gates_within (suc most) actions edges x y =
     list_any (λ e. e.before == x && (e.after == y || nat_le actions e.after && leads_by_gates_within most actions edges e.after y)) edges
 
--- the edge leads on from x, and after it at most so many others to y
-abbrev pub leads_by : ℕ → ℕ → List Edge → ℕ → ℕ → Edge → Bool
-leads_by most actions edges x y e = e.before == x && (e.after == y || nat_le actions e.after && leads_by_gates_within most actions edges e.after y)
-
 -- the number of an action
 abbrev pub is_action_number : GraphOf → ℕ → Bool
 is_action_number g x = nat_lt 0 x && nat_le x (length g.actions)

@@ -4,7 +4,7 @@ use Rattle.std.specs.Prelude.{◌≡◌, ◌↔◌, ◌<◌, ℕ, ◌==◌, ◌&
 use Rattle.std.specs.List.{list_any, filter_map, flat_map, last_or, range_with_len, enumerate_from}
 use Rattle.cluster_types.specs.declared.cluster.Cluster.{Cluster}
 use Rattle.cluster_types.specs.declared.journal.Action.{Action}
-use Rattle.cluster_types.specs.declared.journal.Action.TheVariants.{Fence, Probe, Cell, MigrateTo, MigrateFrom}
+use Rattle.cluster_types.specs.declared.journal.Action.TheVariants.{Fence, Probe, Operation, MigrateTo, MigrateFrom}
 use Rattle.cluster_types.specs.declared.journal.Event.{Event}
 use Rattle.cluster_types.specs.declared.journal.Event.TheVariants.{Up, Down, Lost, Quorum, Wait, Cleanup, Begin, Ended}
 use Rattle.cluster_types.specs.ExitCodes.{success}
@@ -69,7 +69,7 @@ pub record AreInFlightByNumber (es : List Event) (pairs : List (ℕ × Action)) 
 abbrev pub is_on : ℕ → Action → Bool
 is_on n (Fence node) = false
 is_on n (Probe leaf node) = node == n
-is_on n (Cell op leaf node interval role) = node == n
+is_on n (Operation op leaf node interval role) = node == n
 is_on n (MigrateTo leaf source target) = source == n
 is_on n (MigrateFrom leaf source target) = target == n
 
@@ -95,7 +95,7 @@ pub data NodeWord : Type 0 where
 -- the event is of the kind that a status tells of a cluster with so many nodes: a probe or an operation of a cell ended, or the cell was cleaned up
 abbrev pub is_history_event : ℕ → Event → Bool
 is_history_event nodes (Ended k (Probe leaf node) o moment) = nat_lt node nodes
-is_history_event nodes (Ended k (Cell op leaf node interval role) o moment) = nat_lt node nodes
+is_history_event nodes (Ended k (Operation op leaf node interval role) o moment) = nat_lt node nodes
 is_history_event nodes (Cleanup leaf node) = nat_lt node nodes
 is_history_event nodes _ = false
 

@@ -3,7 +3,7 @@
 use Rattle.std.specs.Prelude.{ℕ, Bool, false, not, ◌==◌, ◌&&◌, ◌||◌, List, [], ◌∷◌}
 use Rattle.std.specs.List.{list_all}
 use Rattle.cluster_types.specs.declared.cluster.Cluster.{Cluster}
-use Rattle.cluster_types.specs.declared.journal.Action.TheVariants.{Fence, Probe, Cell, MigrateTo, MigrateFrom}
+use Rattle.cluster_types.specs.declared.journal.Action.TheVariants.{Fence, Probe, Operation, MigrateTo, MigrateFrom}
 use Rattle.cluster_types.specs.declared.journal.Event.{Event}
 use Rattle.cluster_types.specs.declared.journal.Event.TheVariants.{Up, Down, Lost, Begin, Ended}
 use Rattle.cluster_types.specs.declared.leaf.Op.TheVariants.{Start, Stop, Promote, Demote, Monitor}
@@ -28,25 +28,25 @@ takes_out fencing n _ = false
 -- ended; the sending of a migration to the node began; or a probe or a monitor ended and doesn't close the cell
 abbrev pub opens_cell : ℕ → ℕ → Event → Bool
 opens_cell r n (Up node) = node == n
-opens_cell r n (Begin k (Cell Start leaf node interval role)) = is_same_cell r n leaf node
-opens_cell r n (Begin k (Cell Promote leaf node interval role)) = is_same_cell r n leaf node
-opens_cell r n (Begin k (Cell Demote leaf node interval role)) = is_same_cell r n leaf node
+opens_cell r n (Begin k (Operation Start leaf node interval role)) = is_same_cell r n leaf node
+opens_cell r n (Begin k (Operation Promote leaf node interval role)) = is_same_cell r n leaf node
+opens_cell r n (Begin k (Operation Demote leaf node interval role)) = is_same_cell r n leaf node
 opens_cell r n (Begin k (MigrateTo leaf source target)) = is_same_cell r n leaf target
 opens_cell r n (Begin k (MigrateFrom leaf source target)) = is_same_cell r n leaf target
-opens_cell r n (Ended k (Cell Start leaf node interval role) o moment) = is_same_cell r n leaf node
-opens_cell r n (Ended k (Cell Promote leaf node interval role) o moment) = is_same_cell r n leaf node
-opens_cell r n (Ended k (Cell Demote leaf node interval role) o moment) = is_same_cell r n leaf node
+opens_cell r n (Ended k (Operation Start leaf node interval role) o moment) = is_same_cell r n leaf node
+opens_cell r n (Ended k (Operation Promote leaf node interval role) o moment) = is_same_cell r n leaf node
+opens_cell r n (Ended k (Operation Demote leaf node interval role) o moment) = is_same_cell r n leaf node
 opens_cell r n (Ended k (MigrateFrom leaf source target) o moment) = is_same_cell r n leaf target
 opens_cell r n (Ended k (Probe leaf node) o moment) = is_same_cell r n leaf node && not (is_code_among (not_running ∷ err_installed ∷ []) o)
-opens_cell r n (Ended k (Cell Monitor leaf node interval role) o moment) = is_same_cell r n leaf node && not (is_code_among (not_running ∷ []) o)
+opens_cell r n (Ended k (Operation Monitor leaf node interval role) o moment) = is_same_cell r n leaf node && not (is_code_among (not_running ∷ []) o)
 opens_cell r n _ = false
 
 -- an action shows that the leaf doesn't run on the node: a stop succeeded; a probe found it not running or not installed; or a monitor found
 -- it not running
 abbrev pub closes_cell : ℕ → ℕ → Event → Bool
-closes_cell r n (Ended k (Cell Stop leaf node interval role) o moment) = is_same_cell r n leaf node && is_code_among (success ∷ []) o
+closes_cell r n (Ended k (Operation Stop leaf node interval role) o moment) = is_same_cell r n leaf node && is_code_among (success ∷ []) o
 closes_cell r n (Ended k (Probe leaf node) o moment) = is_same_cell r n leaf node && is_code_among (not_running ∷ err_installed ∷ []) o
-closes_cell r n (Ended k (Cell Monitor leaf node interval role) o moment) = is_same_cell r n leaf node && is_code_among (not_running ∷ []) o
+closes_cell r n (Ended k (Operation Monitor leaf node interval role) o moment) = is_same_cell r n leaf node && is_code_among (not_running ∷ []) o
 closes_cell r n _ = false
 
 -- from this event on the leaf may run on the node: it opens the cell, and shows no outcome that is ignored
@@ -66,20 +66,20 @@ may_be_running c r n (e ∷ es) = opens c r n e && list_all (λ later. not (clos
 -- monitor found it promoted
 abbrev pub promotes_cell : ℕ → ℕ → Event → Bool
 promotes_cell r n (Up node) = node == n
-promotes_cell r n (Begin k (Cell Promote leaf node interval role)) = is_same_cell r n leaf node
-promotes_cell r n (Ended k (Cell Promote leaf node interval role) o moment) = is_same_cell r n leaf node
+promotes_cell r n (Begin k (Operation Promote leaf node interval role)) = is_same_cell r n leaf node
+promotes_cell r n (Ended k (Operation Promote leaf node interval role) o moment) = is_same_cell r n leaf node
 promotes_cell r n (Ended k (Probe leaf node) o moment) = is_same_cell r n leaf node && is_code_among (running_promoted ∷ failed_promoted ∷ degraded_promoted ∷ []) o
-promotes_cell r n (Ended k (Cell Monitor leaf node interval role) o moment) = is_same_cell r n leaf node && is_code_among (running_promoted ∷ failed_promoted ∷ degraded_promoted ∷ []) o
+promotes_cell r n (Ended k (Operation Monitor leaf node interval role) o moment) = is_same_cell r n leaf node && is_code_among (running_promoted ∷ failed_promoted ∷ degraded_promoted ∷ []) o
 promotes_cell r n _ = false
 
 -- an action shows that the leaf isn't promoted on the node: a start, a stop or a demote succeeded; a probe or a monitor found it unpromoted or not running;
 -- or a probe found it not installed
 abbrev pub demotes_cell : ℕ → ℕ → Event → Bool
-demotes_cell r n (Ended k (Cell Start leaf node interval role) o moment) = is_same_cell r n leaf node && is_code_among (success ∷ []) o
-demotes_cell r n (Ended k (Cell Stop leaf node interval role) o moment) = is_same_cell r n leaf node && is_code_among (success ∷ []) o
-demotes_cell r n (Ended k (Cell Demote leaf node interval role) o moment) = is_same_cell r n leaf node && is_code_among (success ∷ []) o
+demotes_cell r n (Ended k (Operation Start leaf node interval role) o moment) = is_same_cell r n leaf node && is_code_among (success ∷ []) o
+demotes_cell r n (Ended k (Operation Stop leaf node interval role) o moment) = is_same_cell r n leaf node && is_code_among (success ∷ []) o
+demotes_cell r n (Ended k (Operation Demote leaf node interval role) o moment) = is_same_cell r n leaf node && is_code_among (success ∷ []) o
 demotes_cell r n (Ended k (Probe leaf node) o moment) = is_same_cell r n leaf node && is_code_among (success ∷ degraded ∷ not_running ∷ err_installed ∷ []) o
-demotes_cell r n (Ended k (Cell Monitor leaf node interval role) o moment) = is_same_cell r n leaf node && is_code_among (success ∷ degraded ∷ not_running ∷ []) o
+demotes_cell r n (Ended k (Operation Monitor leaf node interval role) o moment) = is_same_cell r n leaf node && is_code_among (success ∷ degraded ∷ not_running ∷ []) o
 demotes_cell r n _ = false
 
 abbrev pub opens_promoted : Cluster → ℕ → ℕ → Event → Bool

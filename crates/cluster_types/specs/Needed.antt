@@ -4,7 +4,7 @@ use Rattle.std.specs.Prelude.{◌≡◌, ◌≢◌, ◌⊎◌, ℕ, ◌<◌, nat
 use Rattle.std.specs.List.{list_any}
 use Rattle.cluster_types.specs.declared.cluster.Cluster.{Cluster}
 use Rattle.cluster_types.specs.declared.journal.Action.{Action}
-use Rattle.cluster_types.specs.declared.journal.Action.TheVariants.{Fence, Probe, Cell, MigrateTo, MigrateFrom}
+use Rattle.cluster_types.specs.declared.journal.Action.TheVariants.{Fence, Probe, Operation, MigrateTo, MigrateFrom}
 use Rattle.cluster_types.specs.declared.journal.Event.{Event}
 use Rattle.cluster_types.specs.declared.leaf.Monitor.{Monitor as MonitorOf}
 use Rattle.cluster_types.specs.declared.leaf.Op.{Op}
@@ -119,9 +119,9 @@ module _ (c : Cluster) (es : List Event) (targets : Targets) where
   pub data NeededBeforeMigration : Action → Type 0 where
     fence : (n : ℕ) → n < length c.nodes → is_to_be_fenced c n es ≡ true → NeededBeforeMigration (Fence n)
     probe : (r n : ℕ) → r < length c.leaves → n < length c.nodes → is_unprobed_state (cell_state c r n es) ≡ true → NeededBeforeMigration (Probe r n)
-    step : (r n : ℕ) (o : Op) → r < length c.leaves → n < length c.nodes → GetsStep r n o → NeededBeforeMigration (Cell o r n 0 role.Started)
+    step : (r n : ℕ) (o : Op) → r < length c.leaves → n < length c.nodes → GetsStep r n o → NeededBeforeMigration (Operation o r n 0 role.Started)
     monitor : (r n : ℕ) (m : MonitorOf) → r < length c.leaves → n < length c.nodes → Contains (monitors c r) m → NeedsMonitor r n m
-        → NeededBeforeMigration (Cell op.Monitor r n m.interval_ms m.role)
+        → NeededBeforeMigration (Operation op.Monitor r n m.interval_ms m.role)
 
   -- the leaf gets a step anywhere
   abbrev pub GetsStepAnywhere : ℕ → Type 0
@@ -148,13 +148,13 @@ module _ (c : Cluster) (es : List Event) (targets : Targets) where
     pub running : cell_state c r n es ≡ cell.On
     pub nowhere_else : (k : ℕ) → k < length c.nodes → k ≢ n → may_be_running c r k es ≡ false
     pub elsewhere : m ≢ n
-    pub stopped : NeededBeforeMigration (Cell op.Stop r n 0 role.Started)
-    pub started : NeededBeforeMigration (Cell op.Start r m 0 role.Started)
+    pub stopped : NeededBeforeMigration (Operation op.Stop r n 0 role.Started)
+    pub started : NeededBeforeMigration (Operation op.Start r m 0 role.Started)
     pub orders : (o : Order) → Contains c.orders o → IsHarmlessOrder r o
     pub colocations : (col : Colocation) → Contains c.colocations col → IsHarmlessColocation r col
 
   -- what has to be done: where a leaf migrates, it is sent and taken in instead of started
   pub data Needed : Action → Type 0 where
-    kept : (a : Action) → NeededBeforeMigration a → ((r n m : ℕ) → Migrates r n m → a ≢ Cell op.Start r m 0 role.Started) → Needed a
+    kept : (a : Action) → NeededBeforeMigration a → ((r n m : ℕ) → Migrates r n m → a ≢ Operation op.Start r m 0 role.Started) → Needed a
     sent : (r n m : ℕ) → Migrates r n m → Needed (MigrateTo r n m)
     taken_in : (r n m : ℕ) → Migrates r n m → Needed (MigrateFrom r n m)

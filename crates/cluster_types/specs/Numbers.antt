@@ -4,7 +4,7 @@ use Rattle.std.specs.List.{flat_map, range_with_len}
 use Rattle.edges.specs.Chains.{HaveNoLoop, IsLinked, IsLongestChain}
 use Rattle.cluster_types.specs.declared.cluster.Cluster.{Cluster}
 use Rattle.cluster_types.specs.declared.journal.Action.{Action}
-use Rattle.cluster_types.specs.declared.journal.Action.TheVariants.{Fence, Probe, Cell, MigrateTo, MigrateFrom}
+use Rattle.cluster_types.specs.declared.journal.Action.TheVariants.{Fence, Probe, Operation, MigrateTo, MigrateFrom}
 use Rattle.cluster_types.specs.declared.leaf.Op.{Op}
 use Rattle.cluster_types.specs.declared.leaf.Op.TheVariants as op
 use Rattle.cluster_types.specs.declared.rules.Order.{Order}
@@ -127,14 +127,14 @@ place_in_phase phase ranked r n interval = place (phase_position phase) ranked r
 abbrev pub action_place : Cluster → List Action → Action → Place
 action_place c actions (Fence n) = place_in_phase Fences 0 0 n 0
 action_place c actions (Probe r n) = place_in_phase Probes 0 r n 0
-action_place c actions (Cell op.Stop r n interval role) =
+action_place c actions (Operation op.Stop r n interval role) =
     if is_migrating actions r then place_in_phase SourceStops 0 r n 0 else place_in_phase Stops (rank c (step_of op.Stop r)) r n 0
-action_place c actions (Cell op.Demote r n interval role) = place_in_phase Stops (rank c (step_of op.Demote r)) r n 0
+action_place c actions (Operation op.Demote r n interval role) = place_in_phase Stops (rank c (step_of op.Demote r)) r n 0
 action_place c actions (MigrateTo r source target) = place_in_phase Sends 0 r source 0
 action_place c actions (MigrateFrom r source target) = place_in_phase TakingsIn 0 r target 0
-action_place c actions (Cell op.Start r n interval role) = place_in_phase Starts (rank c (step_of op.Start r)) r n 0
-action_place c actions (Cell op.Promote r n interval role) = place_in_phase Starts (rank c (step_of op.Promote r)) r n 0
-action_place c actions (Cell op.Monitor r n interval role) = place_in_phase Monitors 0 r n interval
+action_place c actions (Operation op.Start r n interval role) = place_in_phase Starts (rank c (step_of op.Start r)) r n 0
+action_place c actions (Operation op.Promote r n interval role) = place_in_phase Starts (rank c (step_of op.Promote r)) r n 0
+action_place c actions (Operation op.Monitor r n interval role) = place_in_phase Monitors 0 r n interval
 
 -- the one number is below the other, or they are equal and the rest says so
 abbrev pub is_below_or_equal_and : ℕ → ℕ → Bool → Bool

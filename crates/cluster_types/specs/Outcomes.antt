@@ -4,7 +4,7 @@ use Rattle.std.specs.List.{list_any}
 use Rattle.std.specs.Option.{option_map_or}
 use Rattle.cluster_types.specs.declared.cluster.Cluster.{Cluster}
 use Rattle.cluster_types.specs.declared.journal.Action.{Action}
-use Rattle.cluster_types.specs.declared.journal.Action.TheVariants.{Fence, Probe, Cell, MigrateTo, MigrateFrom}
+use Rattle.cluster_types.specs.declared.journal.Action.TheVariants.{Fence, Probe, Operation, MigrateTo, MigrateFrom}
 use Rattle.cluster_types.specs.declared.journal.Outcome.{Outcome}
 use Rattle.cluster_types.specs.declared.journal.Outcome.TheVariants.{Code, TimedOut, Gone}
 use Rattle.cluster_types.specs.declared.leaf.Monitor.{Monitor as MonitorOf}
@@ -34,7 +34,7 @@ good_codes_of_op Monitor = success ∷ degraded ∷ running_promoted ∷ degrade
 abbrev pub good_codes : Action → List ℕ
 good_codes (Fence n) = success ∷ []
 good_codes (Probe r n) = success ∷ degraded ∷ not_running ∷ running_promoted ∷ degraded_promoted ∷ []
-good_codes (Cell op r n ms role) = good_codes_of_op op
+good_codes (Operation op r n ms role) = good_codes_of_op op
 good_codes (MigrateTo r source target) = success ∷ []
 good_codes (MigrateFrom r source target) = success ∷ []
 
@@ -60,7 +60,7 @@ op_fail c r Monitor interval = monitor_fail (monitors c r) interval
 abbrev pub action_fail : Cluster → Action → OnFail
 action_fail c (Fence n) = on_fail.Restart
 action_fail c (Probe r n) = on_fail.Restart
-action_fail c (Cell op r n interval role) = op_fail c r op interval
+action_fail c (Operation op r n interval role) = op_fail c r op interval
 action_fail c (MigrateTo r source target) = on_fail.Restart
 action_fail c (MigrateFrom r source target) = on_fail.Restart
 
@@ -90,7 +90,7 @@ is_fence _ = false
 
 -- the action is a recurring monitor
 abbrev pub is_monitor : Action → Bool
-is_monitor (Cell Monitor r n interval role) = true
+is_monitor (Operation Monitor r n interval role) = true
 is_monitor _ = false
 
 -- the outcome is ignored: a bad one of a monitor whose on-fail is ignore. It shows that the monitor runs, and nothing else

@@ -3,7 +3,7 @@ use Rattle.std.specs.Prelude.{◌≡◌, ℕ, ◌*◌, Bool, false, Option, Some
 use Rattle.std.specs.List.{range_with_len}
 use Rattle.cluster_types.specs.declared.cluster.Cluster.{Cluster}
 use Rattle.cluster_types.specs.declared.journal.Action.{Action}
-use Rattle.cluster_types.specs.declared.journal.Action.TheVariants.{Fence, Probe, Cell, MigrateTo, MigrateFrom}
+use Rattle.cluster_types.specs.declared.journal.Action.TheVariants.{Fence, Probe, Operation, MigrateTo, MigrateFrom}
 use Rattle.cluster_types.specs.declared.journal.Event.{Event}
 use Rattle.cluster_types.specs.declared.journal.Promotion.{Promotion}
 use Rattle.cluster_types.specs.declared.placement.Decided.{Decided}
@@ -78,7 +78,7 @@ pub record CarriesOut (c : Cluster) (es : List Event) (promotions : List Promoti
 abbrev pub is_of_either : ℕ → ℕ → Action → Bool
 is_of_either r s (Fence n) = false
 is_of_either r s (Probe leaf n) = leaf == r || leaf == s
-is_of_either r s (Cell op leaf n interval role) = leaf == r || leaf == s
+is_of_either r s (Operation op leaf n interval role) = leaf == r || leaf == s
 is_of_either r s (MigrateTo leaf source target) = leaf == r || leaf == s
 is_of_either r s (MigrateFrom leaf source target) = leaf == r || leaf == s
 

@@ -3,7 +3,7 @@ use Rattle.std.specs.Prelude.{ℕ, nat_lt, ◌==◌, ◌&&◌, ◌||◌, Bool, t
 use Rattle.std.specs.List.{list_any}
 use Rattle.cluster_types.specs.declared.cluster.Cluster.{Cluster}
 use Rattle.cluster_types.specs.declared.journal.Action.{Action}
-use Rattle.cluster_types.specs.declared.journal.Action.TheVariants.{Fence, Probe, Cell, MigrateTo, MigrateFrom}
+use Rattle.cluster_types.specs.declared.journal.Action.TheVariants.{Fence, Probe, Operation, MigrateTo, MigrateFrom}
 use Rattle.cluster_types.specs.declared.leaf.Op.{Op}
 use Rattle.cluster_types.specs.declared.leaf.Op.TheVariants as op
 use Rattle.cluster_types.specs.declared.leaf.Role.{Role}
@@ -57,7 +57,7 @@ probe_cell _ = None
 
 -- the cell on which the action is this operation
 abbrev pub op_cell : Op → Action → Option CellOf
-op_cell o (Cell p r n interval role) = if is_same_op o p then cell_of r n else None
+op_cell o (Operation p r n interval role) = if is_same_op o p then cell_of r n else None
 op_cell o _ = None
 
 -- the cell that gets a start by the action. A migration that sends stands for the start on its target
@@ -82,7 +82,7 @@ is_some_cell None = false
 
 -- the cell whose leaf the action starts, a migration that sends too, or promotes
 abbrev pub gives_any : Action → Option CellOf
-gives_any (Cell op.Promote r n interval role) = cell_of r n
+gives_any (Operation op.Promote r n interval role) = cell_of r n
 gives_any a = start_cell a
 
 -- the cell whose leaf gets the role by the action
@@ -95,13 +95,13 @@ abbrev pub takes_or_probes : Role → Action → Option CellOf
 takes_or_probes role.Started (Probe r n) = cell_of r n
 takes_or_probes role.Started a = op_cell op.Stop a
 takes_or_probes role.Promoted (Probe r n) = cell_of r n
-takes_or_probes role.Promoted (Cell op.Demote r n interval role) = cell_of r n
+takes_or_probes role.Promoted (Operation op.Demote r n interval role) = cell_of r n
 takes_or_probes role.Promoted a = op_cell op.Stop a
 
 -- the cell of one of the four: a start, stop, promote or demote
 abbrev pub change_cell : Action → Option CellOf
-change_cell (Cell op.Monitor r n interval role) = None
-change_cell (Cell o r n interval role) = cell_of r n
+change_cell (Operation op.Monitor r n interval role) = None
+change_cell (Operation o r n interval role) = cell_of r n
 change_cell _ = None
 
 -- the words whose actions take away what the word gives
@@ -129,7 +129,7 @@ as_earlier o a = op_cell o a
 abbrev pub as_later : List Action → Op → Action → Option CellOf
 as_later actions op.Start a = start_cell a
 as_later actions op.Stop (MigrateTo r source target) = cell_of r source
-as_later actions op.Stop (Cell op.Stop r n interval role) = if is_migrating actions r then None else cell_of r n
+as_later actions op.Stop (Operation op.Stop r n interval role) = if is_migrating actions r then None else cell_of r n
 as_later actions op.Stop _ = None
 as_later actions o a = op_cell o a
 
@@ -209,8 +209,8 @@ is_serialized is_earlier o x y = is_serialize o.kind && (is_across o x y || is_a
 -- of one migrating leaf: it is sent, then taken in, and then stopped on the source and watched on the target
 abbrev pub migrates_first : Action → Action → Bool
 migrates_first (MigrateTo r source target) (MigrateFrom s from to) = r == s
-migrates_first (MigrateFrom r source target) (Cell op.Stop s n interval role) = r == s && n == source
-migrates_first (MigrateFrom r source target) (Cell op.Monitor s n interval role) = r == s && n == target
+migrates_first (MigrateFrom r source target) (Operation op.Stop s n interval role) = r == s && n == source
+migrates_first (MigrateFrom r source target) (Operation op.Monitor s n interval role) = r == s && n == target
 migrates_first _ _ = false
 
 -- x must have succeeded before y begins. The actions are all that are needed, and is_earlier is the order of their numbers

@@ -3,7 +3,7 @@
 use Rattle.std.specs.Prelude.{◌≡◌, ◌≢◌, ◌⊎◌, ◌<◌, ◌&&◌, ℕ, Bool, true, false, List, length, Contains}
 use Rattle.cluster_types.specs.declared.cluster.Cluster.{Cluster}
 use Rattle.cluster_types.specs.declared.journal.Action.{Action}
-use Rattle.cluster_types.specs.declared.journal.Action.TheVariants.{Fence, Probe, Cell, MigrateTo, MigrateFrom}
+use Rattle.cluster_types.specs.declared.journal.Action.TheVariants.{Fence, Probe, Operation, MigrateTo, MigrateFrom}
 use Rattle.cluster_types.specs.declared.leaf.Op.{Op}
 use Rattle.cluster_types.specs.declared.leaf.Op.TheVariants as op
 use Rattle.cluster_types.specs.declared.leaf.Role.{Role}
@@ -17,7 +17,7 @@ use Rattle.cluster_types.specs.Tables.{is_in_scope}
 
 -- the action is this operation of a leaf on a node
 pub data IsOperation (o : Op) : Action → ℕ → ℕ → Type 0 where
-  operation : (r n interval : ℕ) (role : Role) → IsOperation o (Cell o r n interval role) r n
+  operation : (r n interval : ℕ) (role : Role) → IsOperation o (Operation o r n interval role) r n
 
 -- which operation an action counts as where it must come first: its own; and the taking in of a migration also as the start on its target (Pacemaker
 -- Explained, "Migrating Resources": a migration takes the place of a stop and a start)
@@ -72,8 +72,8 @@ pub data AreEnds (o : Order) : ℕ → ℕ → Type 0 where
 -- nodes, so from and to are source and target
 pub data MigratesInTurn : Action → Action → Type 0 where
   taken_in_later : (r source target from to : ℕ) → MigratesInTurn (MigrateTo r source target) (MigrateFrom r from to)
-  stopped_later : (r source target interval : ℕ) (role : Role) → MigratesInTurn (MigrateFrom r source target) (Cell op.Stop r source interval role)
-  watched_later : (r source target interval : ℕ) (role : Role) → MigratesInTurn (MigrateFrom r source target) (Cell op.Monitor r target interval role)
+  stopped_later : (r source target interval : ℕ) (role : Role) → MigratesInTurn (MigrateFrom r source target) (Operation op.Stop r source interval role)
+  watched_later : (r source target interval : ℕ) (role : Role) → MigratesInTurn (MigrateFrom r source target) (Operation op.Monitor r target interval role)
 
 -- the first action must have succeeded before the other may begin. The actions are all that are needed, and is_earlier is the order of their numbers
 module _ (c : Cluster) (actions : List Action) (is_earlier : Action → Action → Bool) where

@@ -5,7 +5,7 @@ use Rattle.std.specs.List.{list_any, list_all, flat_map, range_with_len}
 use Rattle.std.specs.Option.{option_map_or}
 use Rattle.cluster_types.specs.declared.cluster.Cluster.{Cluster}
 use Rattle.cluster_types.specs.declared.journal.Action.{Action}
-use Rattle.cluster_types.specs.declared.journal.Action.TheVariants.{Probe, Cell}
+use Rattle.cluster_types.specs.declared.journal.Action.TheVariants.{Probe, Operation}
 use Rattle.cluster_types.specs.declared.journal.Answer.{Answer}
 use Rattle.cluster_types.specs.declared.journal.Event.{Event}
 use Rattle.cluster_types.specs.declared.journal.Event.TheVariants.{Up, Lost, Quorum, Wait, Begin, Ended}
@@ -23,14 +23,14 @@ use Rattle.cluster_types.specs.Sources.{Says}
 -- the exit codes that are expected of an action (rule of this project)
 abbrev pub expected_codes : Action → List ℕ
 expected_codes (Probe r n) = not_running ∷ []
-expected_codes (Cell Monitor r n interval role.Started) = success ∷ degraded ∷ []
-expected_codes (Cell Monitor r n interval role.Promoted) = running_promoted ∷ degraded_promoted ∷ []
+expected_codes (Operation Monitor r n interval role.Started) = success ∷ degraded ∷ []
+expected_codes (Operation Monitor r n interval role.Promoted) = running_promoted ∷ degraded_promoted ∷ []
 expected_codes _ = success ∷ []
 
 -- the exit code with which an action ends when nothing more is said (rule of this project)
 abbrev pub silent_code : Action → ℕ
 silent_code (Probe r n) = not_running
-silent_code (Cell Monitor r n interval role.Promoted) = running_promoted
+silent_code (Operation Monitor r n interval role.Promoted) = running_promoted
 silent_code _ = success
 
 -- what is added when nothing more is said: of the actions in flight, in the order of their numbers, the first ends with its silent code

@@ -5,7 +5,7 @@ use Rattle.std.specs.Option.{option_map_or}
 use Rattle.score.specs.ScoreText.{score_text}
 use Rattle.cluster_types.specs.declared.cluster.Cluster.{Cluster}
 use Rattle.cluster_types.specs.declared.journal.Action.{Action}
-use Rattle.cluster_types.specs.declared.journal.Action.TheVariants.{Fence, Probe, Cell, MigrateTo, MigrateFrom}
+use Rattle.cluster_types.specs.declared.journal.Action.TheVariants.{Fence, Probe, Operation, MigrateTo, MigrateFrom}
 use Rattle.cluster_types.specs.declared.journal.Answer.{Answer}
 use Rattle.cluster_types.specs.declared.journal.Answer.TheVariants as answer
 use Rattle.cluster_types.specs.declared.journal.Event.{Event}
@@ -48,7 +48,7 @@ op_word Monitor = codes "monitor "
 -- has no line, since the node's loss has one
 abbrev pub event_lines : Event → List RunLine
 event_lines (Begin k a) = line.Begin k a ∷ []
-event_lines (Ended zero (Cell Monitor r n interval role) (Code code) moment) = line.Taken (answer.Report n r interval code) ∷ []
+event_lines (Ended zero (Operation Monitor r n interval role) (Code code) moment) = line.Taken (answer.Report n r interval code) ∷ []
 event_lines (Ended k a (Code code) moment) = line.Taken (answer.End k code) ∷ []
 event_lines (Ended k a TimedOut moment) = line.Taken (answer.Timeout k) ∷ []
 event_lines (Lost n) = line.Taken (answer.Lost n) ∷ []
@@ -69,8 +69,8 @@ module _ (c : Cluster) where
   abbrev pub action_text : Action → List ℕ
   action_text (Fence n) = codes "fence " ++ node_name c n
   action_text (Probe r n) = codes "probe " ++ leaf_on r n
-  action_text (Cell Monitor r n interval role) = codes "monitor " ++ leaf_on r n ++ codes " " ++ decimal interval
-  action_text (Cell op r n interval role) = op_word op ++ leaf_on r n
+  action_text (Operation Monitor r n interval role) = codes "monitor " ++ leaf_on r n ++ codes " " ++ decimal interval
+  action_text (Operation op r n interval role) = op_word op ++ leaf_on r n
   action_text (MigrateTo r source target) = codes "migrate_to " ++ leaf_on r source ++ codes " " ++ node_name c target
   action_text (MigrateFrom r source target) = codes "migrate_from " ++ leaf_on r source ++ codes " " ++ node_name c target
 

@@ -33,7 +33,7 @@ impl Action {
                 leaf: its_leaf,
                 node: its_node,
             }
-            | Action::Cell {
+            | Action::Operation {
                 leaf: its_leaf,
                 node: its_node,
                 ..

@@ -28,7 +28,7 @@ pub enum Action {
     },
     /// Calls an operation of the leaf on the node. The interval is 0 for every operation but Monitor. The role is Promoted for a monitor whose
     /// interval has a statement of role Promoted, and Started for every other action.
-    Cell {
+    Operation {
         op: Op,
         leaf: LeafId,
         node: NodeId,

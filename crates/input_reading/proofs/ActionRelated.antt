@@ -5,7 +5,7 @@ use Rattle.crm_lex.specs.Names.{is}
 use Rattle.crm_parse.proofs.Binds.{is-true}
 use Rattle.cluster_types.specs.declared.cluster.Cluster.{Cluster}
 use Rattle.cluster_types.specs.declared.journal.Action.{Action}
-use Rattle.cluster_types.specs.declared.journal.Action.TheVariants.{Fence, Probe, Cell, MigrateTo, MigrateFrom}
+use Rattle.cluster_types.specs.declared.journal.Action.TheVariants.{Fence, Probe, Operation, MigrateTo, MigrateFrom}
 use Rattle.cluster_types.specs.declared.leaf.Leaf.{Leaf}
 use Rattle.cluster_types.specs.declared.leaf.Op.{Op}
 use Rattle.cluster_types.specs.declared.leaf.Op.TheVariants.{Start, Stop, Promote, Demote}
@@ -58,7 +58,7 @@ module _ (c : Cluster) where
       let (end, last, e3) = bind-ok (line_end_at 5 words) _ what e2 in
       let a = leaf-at c 3 words leaf leaf_named in
       let b = node-at c 4 words node named in
-      by-form (ActionSays c) (drop 2 words) (word ∷ a.word ∷ b.word ∷ []) (Cell op leaf node 0 role.Started) what
+      by-form (ActionSays c) (drop 2 words) (word ∷ a.word ∷ b.word ∷ []) (Operation op leaf node 0 role.Started) what
       (onto _ first (onto _ a.here (onto _ b.here (end-here 5 words end last)))) e3 (operation_form word a.word b.word op leaf node says a.says b.says)
 
   monitor-said : (words : WordsOfLine) (what : Action) → drop 2 words ≡ codes "monitor" ∷ drop 3 words → monitor_at_end c words ≡ Ok what → ActionSays c (drop 2 words) what
@@ -155,7 +155,7 @@ module _ (c : Cluster) where
 
   operation-read : (number : List ℕ) (k : ℕ) (word leaf_name name : List ℕ) (op : Op) (leaf node : ℕ) → SaysOperation word op → number_at 1 (codes "begin" ∷ number ∷ word ∷ leaf_name ∷ name ∷ []) ≡ Ok k
       → leaf_at c 3 (codes "begin" ∷ number ∷ word ∷ leaf_name ∷ name ∷ []) ≡ Ok leaf → node_at c 4 (codes "begin" ∷ number ∷ word ∷ leaf_name ∷ name ∷ []) ≡ Ok node
-      → begin_line c (codes "begin" ∷ number ∷ word ∷ leaf_name ∷ name ∷ []) ≡ Ok (line.Begin k (Cell op leaf node 0 role.Started))
+      → begin_line c (codes "begin" ∷ number ∷ word ∷ leaf_name ∷ name ∷ []) ≡ Ok (line.Begin k (Operation op leaf node 0 role.Started))
   unfolding begin_line action_word_at action_word operation_at_end
   operation-read number k w leaf_name name o leaf node to_start n a b = rw (n, a, b) refl
   operation-read number k w leaf_name name o leaf node to_stop n a b = rw (n, a, b) refl

@@ -2,7 +2,7 @@
 use Rattle.std.proofs.Common.{pos, true, false, [], ◌∷◌, refl}
 use Rattle.std.specs.Prelude.{codes}
 use Rattle.cluster_types.specs.declared.cluster.Cluster.{Cluster}
-use Rattle.cluster_types.specs.declared.journal.Action.TheVariants.{Cell, Fence, MigrateFrom, MigrateTo, Probe}
+use Rattle.cluster_types.specs.declared.journal.Action.TheVariants.{Operation, Fence, MigrateFrom, MigrateTo, Probe}
 use Rattle.cluster_types.specs.declared.journal.Answer.{Answer}
 use Rattle.cluster_types.specs.declared.journal.Answer.TheVariants as answer
 use Rattle.cluster_types.specs.declared.journal.Event.TheVariants.{Cleanup, Ended}
@@ -143,13 +143,13 @@ module _ where
   unfolding line_of_words line_word transition_line complete_line aborted_line unexpected_line number_alone pinned_line pin_at target_line target_at lacking_line plain_line held_line reason_of id_at begin_line action_word_at action_word fence_at_end probe_at_end operation_at_end monitor_at_end migrate_to_at_end migrate_from_at_end answer_line answer_of result_word wait_line number_at seconds_at node_at leaf_at
   probes = run-said small (codes "begin" ∷ codes "2" ∷ codes "probe" ∷ codes "db" ∷ codes "n2" ∷ []) (line.Begin 2 (Probe 1 1)) refl
 
-  starts : RunSays small (codes "begin" ∷ codes "3" ∷ codes "start" ∷ codes "db" ∷ codes "n2" ∷ []) (line.Begin 3 (Cell Start 1 1 0 role.Started))
+  starts : RunSays small (codes "begin" ∷ codes "3" ∷ codes "start" ∷ codes "db" ∷ codes "n2" ∷ []) (line.Begin 3 (Operation Start 1 1 0 role.Started))
   unfolding line_of_words line_word transition_line complete_line aborted_line unexpected_line number_alone pinned_line pin_at target_line target_at lacking_line plain_line held_line reason_of id_at begin_line action_word_at action_word fence_at_end probe_at_end operation_at_end monitor_at_end migrate_to_at_end migrate_from_at_end answer_line answer_of result_word wait_line number_at seconds_at node_at leaf_at
-  starts = run-said small (codes "begin" ∷ codes "3" ∷ codes "start" ∷ codes "db" ∷ codes "n2" ∷ []) (line.Begin 3 (Cell Start 1 1 0 role.Started)) refl
+  starts = run-said small (codes "begin" ∷ codes "3" ∷ codes "start" ∷ codes "db" ∷ codes "n2" ∷ []) (line.Begin 3 (Operation Start 1 1 0 role.Started)) refl
 
-  watches : RunSays small (codes "begin" ∷ codes "4" ∷ codes "monitor" ∷ codes "db" ∷ codes "n2" ∷ codes "10000" ∷ []) (line.Begin 4 (Cell Monitor 1 1 10000 role.Started))
+  watches : RunSays small (codes "begin" ∷ codes "4" ∷ codes "monitor" ∷ codes "db" ∷ codes "n2" ∷ codes "10000" ∷ []) (line.Begin 4 (Operation Monitor 1 1 10000 role.Started))
   unfolding line_of_words line_word transition_line complete_line aborted_line unexpected_line number_alone pinned_line pin_at target_line target_at lacking_line plain_line held_line reason_of id_at begin_line action_word_at action_word fence_at_end probe_at_end operation_at_end monitor_at_end migrate_to_at_end migrate_from_at_end answer_line answer_of result_word wait_line number_at seconds_at node_at leaf_at
-  watches = run-said small (codes "begin" ∷ codes "4" ∷ codes "monitor" ∷ codes "db" ∷ codes "n2" ∷ codes "10000" ∷ []) (line.Begin 4 (Cell Monitor 1 1 10000 role.Started)) refl
+  watches = run-said small (codes "begin" ∷ codes "4" ∷ codes "monitor" ∷ codes "db" ∷ codes "n2" ∷ codes "10000" ∷ []) (line.Begin 4 (Operation Monitor 1 1 10000 role.Started)) refl
 
   moves_to : RunSays small (codes "begin" ∷ codes "5" ∷ codes "migrate_to" ∷ codes "vip" ∷ codes "n1" ∷ codes "n2" ∷ []) (line.Begin 5 (MigrateTo 0 0 1))
   unfolding line_of_words line_word transition_line complete_line aborted_line unexpected_line number_alone pinned_line pin_at target_line target_at lacking_line plain_line held_line reason_of id_at begin_line action_word_at action_word fence_at_end probe_at_end operation_at_end monitor_at_end migrate_to_at_end migrate_from_at_end answer_line answer_of result_word wait_line number_at seconds_at node_at leaf_at
@@ -218,21 +218,21 @@ module _ where
   unfolding told_of status_word now_line quorum_line node_line op_line cleanup_line promotion_line seconds_at yes_at node_at leaf_at state_at op_at interval_at outcome_at promotable_at score_at
   left = status-said small (codes "node" ∷ codes "n2" ∷ codes "unclean" ∷ []) (Node 1 Unclean) refl
 
-  started : StatusSays small (codes "op" ∷ codes "n1" ∷ codes "vip" ∷ codes "start" ∷ codes "0" ∷ codes "0" ∷ codes "90" ∷ []) (Past (Ended 0 (Cell Start 0 0 0 role.Started) (Code 0) 90))
+  started : StatusSays small (codes "op" ∷ codes "n1" ∷ codes "vip" ∷ codes "start" ∷ codes "0" ∷ codes "0" ∷ codes "90" ∷ []) (Past (Ended 0 (Operation Start 0 0 0 role.Started) (Code 0) 90))
   unfolding told_of status_word now_line quorum_line node_line op_line cleanup_line promotion_line seconds_at yes_at node_at leaf_at state_at op_at interval_at outcome_at promotable_at score_at
-  started = status-said small (codes "op" ∷ codes "n1" ∷ codes "vip" ∷ codes "start" ∷ codes "0" ∷ codes "0" ∷ codes "90" ∷ []) (Past (Ended 0 (Cell Start 0 0 0 role.Started) (Code 0) 90)) refl
+  started = status-said small (codes "op" ∷ codes "n1" ∷ codes "vip" ∷ codes "start" ∷ codes "0" ∷ codes "0" ∷ codes "90" ∷ []) (Past (Ended 0 (Operation Start 0 0 0 role.Started) (Code 0) 90)) refl
 
-  was_promoted : StatusSays small (codes "op" ∷ codes "n1" ∷ codes "db" ∷ codes "promote" ∷ codes "0" ∷ codes "timeout" ∷ codes "90" ∷ []) (Past (Ended 0 (Cell Promote 1 0 0 role.Started) TimedOut 90))
+  was_promoted : StatusSays small (codes "op" ∷ codes "n1" ∷ codes "db" ∷ codes "promote" ∷ codes "0" ∷ codes "timeout" ∷ codes "90" ∷ []) (Past (Ended 0 (Operation Promote 1 0 0 role.Started) TimedOut 90))
   unfolding told_of status_word now_line quorum_line node_line op_line cleanup_line promotion_line seconds_at yes_at node_at leaf_at state_at op_at interval_at outcome_at promotable_at score_at
-  was_promoted = status-said small (codes "op" ∷ codes "n1" ∷ codes "db" ∷ codes "promote" ∷ codes "0" ∷ codes "timeout" ∷ codes "90" ∷ []) (Past (Ended 0 (Cell Promote 1 0 0 role.Started) TimedOut 90)) refl
+  was_promoted = status-said small (codes "op" ∷ codes "n1" ∷ codes "db" ∷ codes "promote" ∷ codes "0" ∷ codes "timeout" ∷ codes "90" ∷ []) (Past (Ended 0 (Operation Promote 1 0 0 role.Started) TimedOut 90)) refl
 
   was_probed : StatusSays small (codes "op" ∷ codes "n1" ∷ codes "vip" ∷ codes "monitor" ∷ codes "00" ∷ codes "7" ∷ codes "90" ∷ []) (Past (Ended 0 (Probe 0 0) (Code 7) 90))
   unfolding told_of status_word now_line quorum_line node_line op_line cleanup_line promotion_line seconds_at yes_at node_at leaf_at state_at op_at interval_at outcome_at promotable_at score_at
   was_probed = status-said small (codes "op" ∷ codes "n1" ∷ codes "vip" ∷ codes "monitor" ∷ codes "00" ∷ codes "7" ∷ codes "90" ∷ []) (Past (Ended 0 (Probe 0 0) (Code 7) 90)) refl
 
-  was_watched : StatusSays small (codes "op" ∷ codes "n1" ∷ codes "vip" ∷ codes "monitor" ∷ codes "10000" ∷ codes "7" ∷ codes "90" ∷ []) (Past (Ended 0 (Cell Monitor 0 0 10000 role.Started) (Code 7) 90))
+  was_watched : StatusSays small (codes "op" ∷ codes "n1" ∷ codes "vip" ∷ codes "monitor" ∷ codes "10000" ∷ codes "7" ∷ codes "90" ∷ []) (Past (Ended 0 (Operation Monitor 0 0 10000 role.Started) (Code 7) 90))
   unfolding told_of status_word now_line quorum_line node_line op_line cleanup_line promotion_line seconds_at yes_at node_at leaf_at state_at op_at interval_at outcome_at promotable_at score_at
-  was_watched = status-said small (codes "op" ∷ codes "n1" ∷ codes "vip" ∷ codes "monitor" ∷ codes "10000" ∷ codes "7" ∷ codes "90" ∷ []) (Past (Ended 0 (Cell Monitor 0 0 10000 role.Started) (Code 7) 90)) refl
+  was_watched = status-said small (codes "op" ∷ codes "n1" ∷ codes "vip" ∷ codes "monitor" ∷ codes "10000" ∷ codes "7" ∷ codes "90" ∷ []) (Past (Ended 0 (Operation Monitor 0 0 10000 role.Started) (Code 7) 90)) refl
 
   forgotten : StatusSays small (codes "cleanup" ∷ codes "n1" ∷ codes "vip" ∷ []) (Past (Cleanup 0 0))
   unfolding told_of status_word now_line quorum_line node_line op_line cleanup_line promotion_line seconds_at yes_at node_at leaf_at state_at op_at interval_at outcome_at promotable_at score_at

@@ -5,7 +5,7 @@ use Rattle.std.specs.Prelude.{slice_get}
 use Rattle.std.proofs.lemmas.Bool.Decides.{nat_tests}
 use Rattle.cluster_types.specs.declared.cluster.Cluster.{Cluster}
 use Rattle.cluster_types.specs.declared.journal.Action.{Action}
-use Rattle.cluster_types.specs.declared.journal.Action.TheVariants.{Fence, Probe, Cell, MigrateTo, MigrateFrom}
+use Rattle.cluster_types.specs.declared.journal.Action.TheVariants.{Fence, Probe, Operation, MigrateTo, MigrateFrom}
 use Rattle.cluster_types.specs.declared.journal.Answer.{Answer}
 use Rattle.cluster_types.specs.declared.journal.Answer.TheVariants as answer
 use Rattle.cluster_types.specs.declared.leaf.Op.TheVariants.{Start, Stop, Promote, Demote, Monitor}
@@ -61,20 +61,20 @@ module _ (c : Cluster) (valid : IsValid c) where
   begin_again k (Probe r n) h g =
       let ws = line_words c (line.Begin k (Probe r n)) in
       rw (number_is 1 ws k refl h, leaf_is 3 ws r refl g.leaf, node_is 4 ws n refl g.node) refl
-  begin_again k (Cell Start r n interval role) h g =
-      let ws = line_words c (line.Begin k (Cell Start r n interval role)) in
+  begin_again k (Operation Start r n interval role) h g =
+      let ws = line_words c (line.Begin k (Operation Start r n interval role)) in
       rw (g.1, g.2, number_is 1 ws k refl h, leaf_is 3 ws r refl (g.0).leaf, node_is 4 ws n refl (g.0).node) refl
-  begin_again k (Cell Stop r n interval role) h g =
-      let ws = line_words c (line.Begin k (Cell Stop r n interval role)) in
+  begin_again k (Operation Stop r n interval role) h g =
+      let ws = line_words c (line.Begin k (Operation Stop r n interval role)) in
       rw (g.1, g.2, number_is 1 ws k refl h, leaf_is 3 ws r refl (g.0).leaf, node_is 4 ws n refl (g.0).node) refl
-  begin_again k (Cell Promote r n interval role) h g =
-      let ws = line_words c (line.Begin k (Cell Promote r n interval role)) in
+  begin_again k (Operation Promote r n interval role) h g =
+      let ws = line_words c (line.Begin k (Operation Promote r n interval role)) in
       rw (g.1, g.2, number_is 1 ws k refl h, leaf_is 3 ws r refl (g.0).leaf, node_is 4 ws n refl (g.0).node) refl
-  begin_again k (Cell Demote r n interval role) h g =
-      let ws = line_words c (line.Begin k (Cell Demote r n interval role)) in
+  begin_again k (Operation Demote r n interval role) h g =
+      let ws = line_words c (line.Begin k (Operation Demote r n interval role)) in
       rw (g.1, g.2, number_is 1 ws k refl h, leaf_is 3 ws r refl (g.0).leaf, node_is 4 ws n refl (g.0).node) refl
-  begin_again k (Cell Monitor r n interval role) h g =
-      let ws = line_words c (line.Begin k (Cell Monitor r n interval role)) in
+  begin_again k (Operation Monitor r n interval role) h g =
+      let ws = line_words c (line.Begin k (Operation Monitor r n interval role)) in
       rw (g.2, number_is 1 ws k refl h, leaf_is 3 ws r refl (g.0).leaf, node_is 4 ws n refl (g.0).node, number_is 5 ws interval refl g.1) refl
   begin_again k (MigrateTo r source target) h g =
       let ws = line_words c (line.Begin k (MigrateTo r source target)) in

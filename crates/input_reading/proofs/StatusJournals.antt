@@ -6,7 +6,7 @@ use Rattle.crm_lex.specs.Names.{is}
 use Rattle.lemmas.proofs.Results.{by_result}
 use Rattle.crm_lex.specs.declared.line.Line.{Line}
 use Rattle.cluster_types.specs.declared.cluster.Cluster.{Cluster}
-use Rattle.cluster_types.specs.declared.journal.Action.TheVariants.{Cell, Probe}
+use Rattle.cluster_types.specs.declared.journal.Action.TheVariants.{Operation, Probe}
 use Rattle.cluster_types.specs.declared.journal.Event.{Event}
 use Rattle.cluster_types.specs.declared.journal.Event.TheVariants.{Ended}
 use Rattle.cluster_types.specs.declared.journal.Journal.{Journal}
@@ -40,7 +40,7 @@ action_known c Monitor r n interval outcome moment h = probe_known (interval == 
     role = role_of_interval (monitors c r) interval
 
     probe_known : (is_probe : Bool)
-        → is_history_event (length c.nodes) (Ended 0 (if is_probe then Probe r n else Cell Monitor r n interval role) outcome moment) ≡ true
+        → is_history_event (length c.nodes) (Ended 0 (if is_probe then Probe r n else Operation Monitor r n interval role) outcome moment) ≡ true
     probe_known true = h
     probe_known false = h
 

@@ -6,7 +6,7 @@ use Rattle.std.proofs.lemmas.Bool.{and_parts, false_from_ne_true}
 use Rattle.std.proofs.lemmas.Bool.Decides.{nat_tests}
 use Rattle.cluster_types.specs.declared.cluster.Cluster.{Cluster}
 use Rattle.cluster_types.specs.declared.journal.Action.{Action}
-use Rattle.cluster_types.specs.declared.journal.Action.TheVariants.{Fence, Probe, Cell, MigrateTo, MigrateFrom}
+use Rattle.cluster_types.specs.declared.journal.Action.TheVariants.{Fence, Probe, Operation, MigrateTo, MigrateFrom}
 use Rattle.cluster_types.specs.declared.journal.Answer.{Answer}
 use Rattle.cluster_types.specs.declared.journal.Answer.TheVariants as answer
 use Rattle.cluster_types.specs.declared.leaf.Op.TheVariants.{Start, Stop, Promote, Demote, Monitor}
@@ -141,11 +141,11 @@ module _ (c : Cluster) (valid : IsValid c) where
   action_names : (a : Action) → IsActionOf c a → AllByRecursion IsName (action_words c a)
   action_names (Fence n) h = (refl, (node_is_name c valid n h, tt))
   action_names (Probe r n) h = (refl, (leaf_is_name c valid r h.leaf, (node_is_name c valid n h.node, tt)))
-  action_names (Cell Start r n interval role) h = (refl, (leaf_is_name c valid r (h.0).leaf, (node_is_name c valid n (h.0).node, tt)))
-  action_names (Cell Stop r n interval role) h = (refl, (leaf_is_name c valid r (h.0).leaf, (node_is_name c valid n (h.0).node, tt)))
-  action_names (Cell Promote r n interval role) h = (refl, (leaf_is_name c valid r (h.0).leaf, (node_is_name c valid n (h.0).node, tt)))
-  action_names (Cell Demote r n interval role) h = (refl, (leaf_is_name c valid r (h.0).leaf, (node_is_name c valid n (h.0).node, tt)))
-  action_names (Cell Monitor r n interval role) h =
+  action_names (Operation Start r n interval role) h = (refl, (leaf_is_name c valid r (h.0).leaf, (node_is_name c valid n (h.0).node, tt)))
+  action_names (Operation Stop r n interval role) h = (refl, (leaf_is_name c valid r (h.0).leaf, (node_is_name c valid n (h.0).node, tt)))
+  action_names (Operation Promote r n interval role) h = (refl, (leaf_is_name c valid r (h.0).leaf, (node_is_name c valid n (h.0).node, tt)))
+  action_names (Operation Demote r n interval role) h = (refl, (leaf_is_name c valid r (h.0).leaf, (node_is_name c valid n (h.0).node, tt)))
+  action_names (Operation Monitor r n interval role) h =
       (refl, (leaf_is_name c valid r (h.0).leaf, (node_is_name c valid n (h.0).node, (number_name interval h.1, tt))))
   action_names (MigrateTo r source target) h =
       (refl, (leaf_is_name c valid r (h.0).leaf, (node_is_name c valid source (h.0).node, (node_is_name c valid target h.1, tt))))
@@ -197,11 +197,11 @@ module _ (c : Cluster) where
   few_begin : (k : ℕ) (a : Action) → Few (line_words c (line.Begin k a))
   few_begin k (Fence n) = few _ _ (omega arith)
   few_begin k (Probe r n) = few _ _ (omega arith)
-  few_begin k (Cell Start r n interval role) = few _ _ (omega arith)
-  few_begin k (Cell Stop r n interval role) = few _ _ (omega arith)
-  few_begin k (Cell Promote r n interval role) = few _ _ (omega arith)
-  few_begin k (Cell Demote r n interval role) = few _ _ (omega arith)
-  few_begin k (Cell Monitor r n interval role) = few _ _ (omega arith)
+  few_begin k (Operation Start r n interval role) = few _ _ (omega arith)
+  few_begin k (Operation Stop r n interval role) = few _ _ (omega arith)
+  few_begin k (Operation Promote r n interval role) = few _ _ (omega arith)
+  few_begin k (Operation Demote r n interval role) = few _ _ (omega arith)
+  few_begin k (Operation Monitor r n interval role) = few _ _ (omega arith)
   few_begin k (MigrateTo r source target) = few _ _ (omega arith)
   few_begin k (MigrateFrom r source target) = few _ _ (omega arith)
 

@@ -4,7 +4,7 @@ use Rattle.std.specs.Fmt.{decimal}
 use Rattle.std.specs.List.{flat_map}
 use Rattle.cluster_types.specs.declared.cluster.Cluster.{Cluster}
 use Rattle.cluster_types.specs.declared.journal.Action.{Action}
-use Rattle.cluster_types.specs.declared.journal.Action.TheVariants.{Fence, Probe, Cell, MigrateTo, MigrateFrom}
+use Rattle.cluster_types.specs.declared.journal.Action.TheVariants.{Fence, Probe, Operation, MigrateTo, MigrateFrom}
 use Rattle.cluster_types.specs.declared.journal.Answer.{Answer}
 use Rattle.cluster_types.specs.declared.journal.Answer.TheVariants as answer
 use Rattle.cluster_types.specs.declared.leaf.Op.TheVariants.{Start, Stop, Promote, Demote, Monitor}
@@ -57,11 +57,11 @@ module _ (c : Cluster) where
   abbrev pub action_words : Action → WordsOfLine
   action_words (Fence n) = codes "fence" ∷ node_name c n ∷ []
   action_words (Probe r n) = codes "probe" ∷ leaf_name c r ∷ node_name c n ∷ []
-  action_words (Cell Start r n interval role) = codes "start" ∷ leaf_name c r ∷ node_name c n ∷ []
-  action_words (Cell Stop r n interval role) = codes "stop" ∷ leaf_name c r ∷ node_name c n ∷ []
-  action_words (Cell Promote r n interval role) = codes "promote" ∷ leaf_name c r ∷ node_name c n ∷ []
-  action_words (Cell Demote r n interval role) = codes "demote" ∷ leaf_name c r ∷ node_name c n ∷ []
-  action_words (Cell Monitor r n interval role) = codes "monitor" ∷ leaf_name c r ∷ node_name c n ∷ decimal interval ∷ []
+  action_words (Operation Start r n interval role) = codes "start" ∷ leaf_name c r ∷ node_name c n ∷ []
+  action_words (Operation Stop r n interval role) = codes "stop" ∷ leaf_name c r ∷ node_name c n ∷ []
+  action_words (Operation Promote r n interval role) = codes "promote" ∷ leaf_name c r ∷ node_name c n ∷ []
+  action_words (Operation Demote r n interval role) = codes "demote" ∷ leaf_name c r ∷ node_name c n ∷ []
+  action_words (Operation Monitor r n interval role) = codes "monitor" ∷ leaf_name c r ∷ node_name c n ∷ decimal interval ∷ []
   action_words (MigrateTo r source target) = codes "migrate_to" ∷ leaf_name c r ∷ node_name c source ∷ node_name c target ∷ []
   action_words (MigrateFrom r source target) = codes "migrate_from" ∷ leaf_name c r ∷ node_name c source ∷ node_name c target ∷ []
 
@@ -114,15 +114,15 @@ module _ (c : Cluster) where
   begin-joined : (k : ℕ) (a : Action) → run_line c (line.Begin k a) ≡ joined (line_words (line.Begin k a)) ++ 10 ∷ []
   begin-joined k (Fence n) = one_name (codes "begin ") (decimal k) (codes "fence ") (node_name c n)
   begin-joined k (Probe r n) = two_names (codes "begin ") (decimal k) (codes "probe ") (leaf_name c r) (node_name c n)
-  begin-joined k (Cell Start r n interval role) =
+  begin-joined k (Operation Start r n interval role) =
       two_names (codes "begin ") (decimal k) (codes "start ") (leaf_name c r) (node_name c n)
-  begin-joined k (Cell Stop r n interval role) =
+  begin-joined k (Operation Stop r n interval role) =
       two_names (codes "begin ") (decimal k) (codes "stop ") (leaf_name c r) (node_name c n)
-  begin-joined k (Cell Promote r n interval role) =
+  begin-joined k (Operation Promote r n interval role) =
       two_names (codes "begin ") (decimal k) (codes "promote ") (leaf_name c r) (node_name c n)
-  begin-joined k (Cell Demote r n interval role) =
+  begin-joined k (Operation Demote r n interval role) =
       two_names (codes "begin ") (decimal k) (codes "demote ") (leaf_name c r) (node_name c n)
-  begin-joined k (Cell Monitor r n interval role) =
+  begin-joined k (Operation Monitor r n interval role) =
       three_names (codes "begin ") (decimal k) (codes "monitor ") (leaf_name c r) (node_name c n) (decimal interval)
   begin-joined k (MigrateTo r source target) =
       three_names (codes "begin ") (decimal k) (codes "migrate_to ") (leaf_name c r) (node_name c source)

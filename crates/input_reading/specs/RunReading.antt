@@ -4,7 +4,7 @@ use Rattle.std.specs.Option.{ok_or}
 use Rattle.crm_lex.specs.Names.{is}
 use Rattle.cluster_types.specs.declared.cluster.Cluster.{Cluster}
 use Rattle.cluster_types.specs.declared.journal.Action.{Action}
-use Rattle.cluster_types.specs.declared.journal.Action.TheVariants.{Fence, Probe, Cell, MigrateTo, MigrateFrom}
+use Rattle.cluster_types.specs.declared.journal.Action.TheVariants.{Fence, Probe, Operation, MigrateTo, MigrateFrom}
 use Rattle.cluster_types.specs.declared.leaf.Op.{Op}
 use Rattle.cluster_types.specs.declared.leaf.Role.TheVariants.{Started}
 use Rattle.cluster_types.specs.declared.placement.NoReason.TheVariants.{Held}
@@ -124,7 +124,7 @@ operation_at_end c op words = do
   leaf ← leaf_at c 3 words
   node ← node_at c 4 words
   end ← line_end_at 5 words
-  Ok (Cell op leaf node 0 Started)
+  Ok (Operation op leaf node 0 Started)
 
 -- `migrate_to LEAF SOURCE TARGET`
 unfoldable pub migrate_to_at_end : Cluster → WordsOfLine → Result Action WordCause

@@ -5,7 +5,7 @@ use Rattle.crm_lex.specs.Names.{is}
 use Rattle.score.specs.ScoreText.{read_score}
 use Rattle.cluster_types.specs.declared.cluster.Cluster.{Cluster}
 use Rattle.cluster_types.specs.declared.journal.Action.{Action}
-use Rattle.cluster_types.specs.declared.journal.Action.TheVariants.{Probe, Cell}
+use Rattle.cluster_types.specs.declared.journal.Action.TheVariants.{Probe, Operation}
 use Rattle.cluster_types.specs.declared.journal.Event.TheVariants.{Cleanup, Ended}
 use Rattle.cluster_types.specs.declared.journal.Outcome.{Outcome}
 use Rattle.cluster_types.specs.declared.journal.Outcome.TheVariants.{Code, TimedOut}
@@ -110,8 +110,8 @@ outcome_at place words = do
 
 -- the operation as an action of the cell: a monitor of interval 0 is a probe, and another has the role of its interval's statement
 abbrev pub history_action : Cluster → Op → ℕ → ℕ → ℕ → Action
-history_action c Monitor r n interval = if interval == 0 then Probe r n else Cell Monitor r n interval (role_of_interval (monitors c r) interval)
-history_action c op r n interval = Cell op r n 0 role.Started
+history_action c Monitor r n interval = if interval == 0 then Probe r n else Operation Monitor r n interval (role_of_interval (monitors c r) interval)
+history_action c op r n interval = Operation op r n 0 role.Started
 
 -- `op NODE LEAF OP MS CODE SECONDS`: an operation that ended. It has the number 0
 unfoldable pub op_line : Cluster → WordsOfLine → Result Told WordCause

@@ -3,7 +3,7 @@ use Rattle.std.specs.Prelude.{◌≡◌, ℕ, ◌+◌, ◌^◌, ◌<◌, true, L
 use Rattle.std.specs.List.{AllByRecursion, flat_map}
 use Rattle.cluster_types.specs.declared.cluster.Cluster.{Cluster}
 use Rattle.cluster_types.specs.declared.journal.Action.{Action}
-use Rattle.cluster_types.specs.declared.journal.Action.TheVariants.{Fence, Probe, Cell, MigrateTo, MigrateFrom}
+use Rattle.cluster_types.specs.declared.journal.Action.TheVariants.{Fence, Probe, Operation, MigrateTo, MigrateFrom}
 use Rattle.cluster_types.specs.declared.journal.Answer.{Answer}
 use Rattle.cluster_types.specs.declared.journal.Answer.TheVariants as answer
 use Rattle.cluster_types.specs.declared.leaf.Op.TheVariants.{Monitor}
@@ -36,9 +36,9 @@ pub record IsCellOf (c : Cluster) (r n : ℕ) : Type 0 where
 abbrev pub IsActionOf : Cluster → Action → Type 0
 IsActionOf c (Fence n) = n < length c.nodes
 IsActionOf c (Probe r n) = IsCellOf c r n
-IsActionOf c (Cell Monitor r n interval role) =
+IsActionOf c (Operation Monitor r n interval role) =
     IsCellOf c r n × IsNumber interval × (role ≡ role_of_interval (monitors c r) interval)
-IsActionOf c (Cell op r n interval role) = IsCellOf c r n × (interval ≡ 0) × (role ≡ Started)
+IsActionOf c (Operation op r n interval role) = IsCellOf c r n × (interval ≡ 0) × (role ≡ Started)
 IsActionOf c (MigrateTo r source target) = IsCellOf c r source × (target < length c.nodes)
 IsActionOf c (MigrateFrom r source target) = IsCellOf c r source × (target < length c.nodes)
 

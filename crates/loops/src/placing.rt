@@ -3,7 +3,7 @@
 ghost use Rattle.std.specs.Prelude.{◌≡◌, List};
 ghost use Rattle.cluster_types.specs.declared.cluster.Cluster.{Cluster as ClusterOf};
 ghost use Rattle.cluster_types.specs.declared.journal.Action.{Action as ActionOf};
-ghost use Rattle.cluster_types.specs.declared.journal.Action.TheVariants.{Cell};
+ghost use Rattle.cluster_types.specs.declared.journal.Action.TheVariants.{Operation};
 ghost use Rattle.cluster_types.specs.declared.leaf.Role.{Role as RoleOf};
 ghost use Rattle.cluster_types.specs.Numbers.{is_earlier, action_place};
 ghost use Rattle.cluster_types.specs.Precedence as precedence;
@@ -30,7 +30,7 @@ impl StepRanks {
         interval_ms: u32,
     ) -> Place
         ensures { (c : ClusterOf) (actions : List ActionOf) (role : RoleOf) → AreRanks c self.now → AreMigrating actions migrating.now
-            → result ≡ action_place c actions (Cell what leaf node interval_ms role) }
+            → result ≡ action_place c actions (Operation what leaf node interval_ms role) }
     {
         let rank = self.rank(what, leaf);
         match what {
@@ -76,7 +76,7 @@ impl StepRanks {
                 node,
                 ..Place::first_of(Phase::Probes)
             },
-            Action::Cell {
+            Action::Operation {
                 op,
                 leaf,
                 node,

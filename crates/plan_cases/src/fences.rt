@@ -10,7 +10,7 @@ use std::process::Abort;
 
 /// Two nodes join, the leaf starts on the second, and a second later this node is lost.
 fn journal(rt: &impl Abort, alloc: Global, quorum: bool) -> Journal {
-    let started = Action::Cell {
+    let started = Action::Operation {
         op: Op::Start,
         leaf: 0,
         node: 1,

@@ -8,7 +8,7 @@ use std::process::Abort;
 
 const STARTED: Event = Event::Ended {
     number: 0,
-    action: Action::Cell {
+    action: Action::Operation {
         op: Op::Start,
         leaf: 0,
         node: 0,

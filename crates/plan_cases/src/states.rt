@@ -16,7 +16,7 @@ fn event(record: Record) -> Event {
     let action = if op == Op::Monitor && interval_ms == 0 {
         Action::Probe { leaf: 0, node: 0 }
     } else {
-        Action::Cell {
+        Action::Operation {
             op,
             leaf: 0,
             node: 0,

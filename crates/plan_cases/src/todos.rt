@@ -19,14 +19,14 @@ pub fn action(todo: Todo) -> Action {
     match todo {
         Todo::Fence(node) => Action::Fence { node },
         Todo::Probe(leaf, node) => Action::Probe { leaf, node },
-        Todo::Step(op, leaf, node) => Action::Cell {
+        Todo::Step(op, leaf, node) => Action::Operation {
             op,
             leaf,
             node,
             interval_ms: 0,
             role: Role::Started,
         },
-        Todo::Watch(leaf, node, interval_ms, role) => Action::Cell {
+        Todo::Watch(leaf, node, interval_ms, role) => Action::Operation {
             op: Op::Monitor,
             leaf,
             node,

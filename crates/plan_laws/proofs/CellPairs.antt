@@ -5,7 +5,7 @@ use Rattle.lemmas.proofs.Booleans.{either}
 use Rattle.lemmas.proofs.Members.{at_head, in_rest}
 use Rattle.cluster_types.specs.declared.cluster.Cluster.{Cluster}
 use Rattle.cluster_types.specs.declared.journal.Action.{Action}
-use Rattle.cluster_types.specs.declared.journal.Action.TheVariants.{Fence, Probe, Cell, MigrateTo, MigrateFrom}
+use Rattle.cluster_types.specs.declared.journal.Action.TheVariants.{Fence, Probe, Operation, MigrateTo, MigrateFrom}
 use Rattle.cluster_types.specs.declared.journal.Event.{Event}
 use Rattle.cluster_types.specs.declared.leaf.Op.TheVariants as op
 use Rattle.cluster_types.specs.declared.leaf.Role.TheVariants as role
@@ -28,7 +28,7 @@ module _ (c : Cluster) (es : List Event) (targets : Targets) (actions : List Act
   probe_upward (Probe r n) _ a _ h (gives_sent s f t) = refl
   probe_upward (Probe r n) _ a _ h (gives_promote s m i role) = refl
   probe_upward (Fence n) y a s h g = cc
-  probe_upward (Cell o r n i role) y a s h g = cc
+  probe_upward (Operation o r n i role) y a s h g = cc
   probe_upward (MigrateTo r f t) y a s h g = cc
   probe_upward (MigrateFrom r f t) y a s h g = cc
 
@@ -39,13 +39,13 @@ module _ (c : Cluster) (es : List Event) (targets : Targets) (actions : List Act
   -- a stop comes before a start or a promote, whether its leaf migrates or not
   stop_start : (x y : Action) (r n s m : ℕ) → OfCell op.Stop x r n → OfCell op.Start y s m → is_earlier c actions x y ≡ true
   stop_start _ _ _ _ _ _ (of_cell r n i role) (of_cell s m j other) = go (is_migrating actions r) where
-    go : (b : Bool) → is_place_before (stop_place c actions r n b) (action_place c actions (Cell op.Start s m j other)) ≡ true
+    go : (b : Bool) → is_place_before (stop_place c actions r n b) (action_place c actions (Operation op.Start s m j other)) ≡ true
     go true = refl
     go false = refl
 
   stop_promote : (x y : Action) (r n s m : ℕ) → OfCell op.Stop x r n → OfCell op.Promote y s m → is_earlier c actions x y ≡ true
   stop_promote _ _ _ _ _ _ (of_cell r n i role) (of_cell s m j other) = go (is_migrating actions r) where
-    go : (b : Bool) → is_place_before (stop_place c actions r n b) (action_place c actions (Cell op.Promote s m j other)) ≡ true
+    go : (b : Bool) → is_place_before (stop_place c actions r n b) (action_place c actions (Operation op.Promote s m j other)) ≡ true
     go true = refl
     go false = refl
 
@@ -66,7 +66,7 @@ module _ (c : Cluster) (es : List Event) (targets : Targets) (actions : List Act
       go (Some a) e k = fence_upward n y a.leaf (given_any y a e)
       go None e k = cc
   fences_upward (Probe r n) y h = cc
-  fences_upward (Cell o r n i role) y h = cc
+  fences_upward (Operation o r n i role) y h = cc
   fences_upward (MigrateTo r f t) y h = cc
   fences_upward (MigrateFrom r f t) y h = cc
 
@@ -85,10 +85,10 @@ module _ (c : Cluster) (es : List Event) (targets : Targets) (actions : List Act
   demote_stop : (x y : Action) (r n s m : ℕ) → r ≡ s → Contains actions x → OfCell op.Demote x r n → OfCell op.Stop y s m → is_earlier c actions x y ≡ true
   demote_stop _ _ _ _ _ _ same inx (of_cell r n i role) (of_cell s m j other) = go (is_migrating actions s)
     where
-      go : (b : Bool) → is_place_before (action_place c actions (Cell op.Demote r n i role)) (stop_place c actions s m b) ≡ true
+      go : (b : Bool) → is_place_before (action_place c actions (Operation op.Demote r n i role)) (stop_place c actions s m b) ≡ true
       go true = refl
       go false =
-          let need = needs (Cell op.Demote r n i role) inx in
+          let need = needs (Operation op.Demote r n i role) inx in
           let within = bounds_of_cell c es targets op.Demote r n i role need in
           let yes = promotable_by_demote c es targets r n (gets_step c es targets op.Demote r n i role refl need) in
           let up = rise (link op.Demote r op.Stop r)
@@ -97,7 +97,7 @@ module _ (c : Cluster) (es : List Event) (targets : Targets) (actions : List Act
 
   start_promote : (x y : Action) (r n s m : ℕ) → r ≡ s → Contains actions y → OfCell op.Start x r n → OfCell op.Promote y s m → is_earlier c actions x y ≡ true
   start_promote _ _ _ _ _ _ same iny (of_cell r n i role) (of_cell s m j other) =
-      let need = needs (Cell op.Promote s m j other) iny in
+      let need = needs (Operation op.Promote s m j other) iny in
       let within = bounds_of_cell c es targets op.Promote s m j other need in
       let yes = roles s m within.0 within.1 (target_by_promote c es targets s m (gets_step c es targets op.Promote s m j other refl need)) in
       let up = rise (link op.Start s op.Promote s)
@@ -106,14 +106,14 @@ module _ (c : Cluster) (es : List Event) (targets : Targets) (actions : List Act
       gives_by_rank _ _ r s n m 0 0 (subst (λ v. nat_lt (rank c (step_of op.Start v)) (rank c (step_of op.Promote s)) ≡ true) (sym same) (lt-ltb _ _ up))
 
   change_monitor : (x y : Action) (a : CellOf) (s m : ℕ) → change_cell x ≡ Some a → OfCell op.Monitor y s m → is_earlier c actions x y ≡ true
-  change_monitor (Cell op.Start r n i role) _ a _ _ h (of_cell s m j other) = refl
-  change_monitor (Cell op.Stop r n i role) _ a _ _ h (of_cell s m j other) = go (is_migrating actions r) where
-    go : (b : Bool) → is_place_before (stop_place c actions r n b) (action_place c actions (Cell op.Monitor s m j other)) ≡ true
+  change_monitor (Operation op.Start r n i role) _ a _ _ h (of_cell s m j other) = refl
+  change_monitor (Operation op.Stop r n i role) _ a _ _ h (of_cell s m j other) = go (is_migrating actions r) where
+    go : (b : Bool) → is_place_before (stop_place c actions r n b) (action_place c actions (Operation op.Monitor s m j other)) ≡ true
     go true = refl
     go false = refl
-  change_monitor (Cell op.Promote r n i role) _ a _ _ h (of_cell s m j other) = refl
-  change_monitor (Cell op.Demote r n i role) _ a _ _ h (of_cell s m j other) = refl
-  change_monitor (Cell op.Monitor r n i role) y a s m h k = cc
+  change_monitor (Operation op.Promote r n i role) _ a _ _ h (of_cell s m j other) = refl
+  change_monitor (Operation op.Demote r n i role) _ a _ _ h (of_cell s m j other) = refl
+  change_monitor (Operation op.Monitor r n i role) y a s m h k = cc
   change_monitor (Fence n) y a s m h k = cc
   change_monitor (Probe r n) y a s m h k = cc
   change_monitor (MigrateTo r f t) y a s m h k = cc

@@ -6,7 +6,7 @@ use Rattle.std.proofs.lemmas.List.Folds.{Any-from_list_any}
 use Rattle.lemmas.proofs.Booleans.{later, sooner}
 use Rattle.cluster_types.specs.declared.cluster.Cluster.{Cluster}
 use Rattle.cluster_types.specs.declared.journal.Action.{Action}
-use Rattle.cluster_types.specs.declared.journal.Action.TheVariants.{Fence, Probe, Cell, MigrateTo, MigrateFrom}
+use Rattle.cluster_types.specs.declared.journal.Action.TheVariants.{Fence, Probe, Operation, MigrateTo, MigrateFrom}
 use Rattle.cluster_types.specs.declared.journal.Event.{Event}
 use Rattle.cluster_types.specs.declared.leaf.Op.{Op}
 use Rattle.cluster_types.specs.declared.leaf.Op.TheVariants as op
@@ -48,24 +48,24 @@ module _ (c : Cluster) (es : List Event) (targets : Targets) where
   no_migration _ (step r n o h l g) = refl
   no_migration _ (monitor r n m h l k g) = refl
 
-  first_of_cell : (o : Op) (r n i : ℕ) (role : Role) → Needed c es targets (Cell o r n i role) → NeededBeforeMigration c es targets (Cell o r n i role)
+  first_of_cell : (o : Op) (r n i : ℕ) (role : Role) → Needed c es targets (Operation o r n i role) → NeededBeforeMigration c es targets (Operation o r n i role)
   first_of_cell o r n i role (kept _ f k) = f
 
   -- a step of a cell that isn't a monitor is one that the cell gets
-  step_of_cell : (o : Op) (r n i : ℕ) (role : Role) → is_monitor o ≡ false → NeededBeforeMigration c es targets (Cell o r n i role) → GetsStep c es targets r n o
+  step_of_cell : (o : Op) (r n i : ℕ) (role : Role) → is_monitor o ≡ false → NeededBeforeMigration c es targets (Operation o r n i role) → GetsStep c es targets r n o
   step_of_cell _ _ _ _ _ e (step r n o h l g) = g
   step_of_cell _ _ _ _ _ e (monitor r n m h l k g) = cc
 
-  pub gets_step : (o : Op) (r n i : ℕ) (role : Role) → is_monitor o ≡ false → Needed c es targets (Cell o r n i role) → GetsStep c es targets r n o
+  pub gets_step : (o : Op) (r n i : ℕ) (role : Role) → is_monitor o ≡ false → Needed c es targets (Operation o r n i role) → GetsStep c es targets r n o
   gets_step o r n i role e h = step_of_cell o r n i role e (first_of_cell o r n i role h)
 
-  pub bounds_of_cell : (o : Op) (r n i : ℕ) (role : Role) → Needed c es targets (Cell o r n i role) → (r < length c.leaves) × (n < length c.nodes)
+  pub bounds_of_cell : (o : Op) (r n i : ℕ) (role : Role) → Needed c es targets (Operation o r n i role) → (r < length c.leaves) × (n < length c.nodes)
   bounds_of_cell o r n i role h = bounds_of_first c es targets o r n i role (first_of_cell o r n i role h)
 
-  disturbed_by_first : (o : Op) (r n i : ℕ) (role : Role) → is_monitor o ≡ false → NeededBeforeMigration c es targets (Cell o r n i role) → GetsStepAnywhere c es targets r
+  disturbed_by_first : (o : Op) (r n i : ℕ) (role : Role) → is_monitor o ≡ false → NeededBeforeMigration c es targets (Operation o r n i role) → GetsStepAnywhere c es targets r
   disturbed_by_first o r n i role e f = (n, (bounds_of_first c es targets o r n i role f).1, (o, step_of_cell o r n i role e f))
 
-  pub disturbed_by : (o : Op) (r n i : ℕ) (role : Role) → is_monitor o ≡ false → Needed c es targets (Cell o r n i role) → GetsStepAnywhere c es targets r
+  pub disturbed_by : (o : Op) (r n i : ℕ) (role : Role) → is_monitor o ≡ false → Needed c es targets (Operation o r n i role) → GetsStepAnywhere c es targets r
   disturbed_by o r n i role e h = disturbed_by_first o r n i role e (first_of_cell o r n i role h)
 
   -- what sends and what takes in is of a leaf that migrates
@@ -92,7 +92,7 @@ module _ (c : Cluster) (es : List Event) (targets : Targets) where
       of : (a : Action) → Needed c es targets a → sends r a ≡ true → Migrant r
       of (Fence n) k e = absurd (both_ways false refl e)
       of (Probe s n) k e = absurd (both_ways false refl e)
-      of (Cell o s n i role) k e = absurd (both_ways false refl e)
+      of (Operation o s n i role) k e = absurd (both_ways false refl e)
       of (MigrateTo s n m) k e = record {
         source = n;
         goal = m;

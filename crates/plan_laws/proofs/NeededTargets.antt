@@ -5,7 +5,7 @@ use Rattle.lemmas.proofs.Booleans.{sooner}
 use Rattle.lemmas.proofs.Members.{in_none}
 use Rattle.loops.proofs.Needs.{decided_leaf}
 use Rattle.cluster_types.specs.declared.cluster.Cluster.{Cluster}
-use Rattle.cluster_types.specs.declared.journal.Action.TheVariants.{Cell, MigrateTo, MigrateFrom}
+use Rattle.cluster_types.specs.declared.journal.Action.TheVariants.{Operation, MigrateTo, MigrateFrom}
 use Rattle.cluster_types.specs.declared.journal.Event.{Event}
 use Rattle.cluster_types.specs.declared.journal.Promotion.{Promotion}
 use Rattle.cluster_types.specs.declared.leaf.Op.{Op}
@@ -81,16 +81,16 @@ module _ (c : Cluster) (es : List Event) where
         let m : MustBeGiven r given (cell_state c r n es) (targets r n) = given_anew r (cell_state c r n es) (targets r n) o given word s.among in
         gives_with r n given low within s.free (holds_is targets r given n ∙ m.wanted) (λ permitted. started_anew r n given permitted m.not_kept)
 
-    first_start : (r n : ℕ) → NeededBeforeMigration c es targets (Cell op.Start r n 0 role.Started) → MayGiveRole c es targets r n role.Started
+    first_start : (r n : ℕ) → NeededBeforeMigration c es targets (Operation op.Start r n 0 role.Started) → MayGiveRole c es targets r n role.Started
     first_start r n (step _ _ _ low within gets) = gives r n op.Start role.Started low within started gets
 
-    first_promote : (r n : ℕ) → NeededBeforeMigration c es targets (Cell op.Promote r n 0 role.Started) → MayGiveRole c es targets r n role.Promoted
+    first_promote : (r n : ℕ) → NeededBeforeMigration c es targets (Operation op.Promote r n 0 role.Started) → MayGiveRole c es targets r n role.Promoted
     first_promote r n (step _ _ _ low within gets) = gives r n op.Promote role.Promoted low within promoted gets
 
-    pub needed_start : (r n : ℕ) → Needed c es targets (Cell op.Start r n 0 role.Started) → MayGiveRole c es targets r n role.Started
+    pub needed_start : (r n : ℕ) → Needed c es targets (Operation op.Start r n 0 role.Started) → MayGiveRole c es targets r n role.Started
     needed_start r n (kept _ first unless) = first_start r n first
 
-    pub needed_promote : (r n : ℕ) → Needed c es targets (Cell op.Promote r n 0 role.Started) → MayGiveRole c es targets r n role.Promoted
+    pub needed_promote : (r n : ℕ) → Needed c es targets (Operation op.Promote r n 0 role.Started) → MayGiveRole c es targets r n role.Promoted
     needed_promote r n (kept _ first unless) = first_promote r n first
 
     pub needed_migration : (r n m : ℕ) → Migrates c es targets r n m → MayGiveRole c es targets r m role.Started

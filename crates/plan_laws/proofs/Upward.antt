@@ -6,7 +6,7 @@ use Rattle.lemmas.proofs.Booleans.{either}
 use Rattle.loops.proofs.OneRanking.{valid_rise}
 use Rattle.cluster_types.specs.declared.cluster.Cluster.{Cluster}
 use Rattle.cluster_types.specs.declared.journal.Action.{Action}
-use Rattle.cluster_types.specs.declared.journal.Action.TheVariants.{Fence, Probe, Cell, MigrateTo, MigrateFrom}
+use Rattle.cluster_types.specs.declared.journal.Action.TheVariants.{Fence, Probe, Operation, MigrateTo, MigrateFrom}
 use Rattle.cluster_types.specs.declared.journal.Event.{Event}
 use Rattle.cluster_types.specs.declared.leaf.Op.TheVariants as op
 use Rattle.cluster_types.specs.declared.leaf.Role.TheVariants as role
@@ -38,23 +38,23 @@ module _ (c : Cluster) (es : List Event) (targets : Targets) (actions : List Act
 
   migrates_upward : (x y : Action) → Contains actions x → migrates_first x y ≡ true → is_earlier c actions x y ≡ true
   migrates_upward (MigrateTo r f t) (MigrateFrom s g u) inx h = refl
-  migrates_upward (MigrateFrom r f t) (Cell op.Stop s n i role) inx h =
+  migrates_upward (MigrateFrom r f t) (Operation op.Stop s n i role) inx h =
       taken_stop r f t n s (eqb-true r s (and_parts (r == s) (n == f) h).0) inx (is_migrating actions s) refl
-  migrates_upward (MigrateFrom r f t) (Cell op.Monitor s n i role) inx h = refl
-  migrates_upward (MigrateFrom r f t) (Cell op.Start s n i role) inx h = cc
-  migrates_upward (MigrateFrom r f t) (Cell op.Promote s n i role) inx h = cc
-  migrates_upward (MigrateFrom r f t) (Cell op.Demote s n i role) inx h = cc
+  migrates_upward (MigrateFrom r f t) (Operation op.Monitor s n i role) inx h = refl
+  migrates_upward (MigrateFrom r f t) (Operation op.Start s n i role) inx h = cc
+  migrates_upward (MigrateFrom r f t) (Operation op.Promote s n i role) inx h = cc
+  migrates_upward (MigrateFrom r f t) (Operation op.Demote s n i role) inx h = cc
   migrates_upward (MigrateFrom r f t) (Fence n) inx h = cc
   migrates_upward (MigrateFrom r f t) (Probe s n) inx h = cc
   migrates_upward (MigrateFrom r f t) (MigrateTo s g u) inx h = cc
   migrates_upward (MigrateFrom r f t) (MigrateFrom s g u) inx h = cc
   migrates_upward (MigrateTo r f t) (Fence n) inx h = cc
   migrates_upward (MigrateTo r f t) (Probe s n) inx h = cc
-  migrates_upward (MigrateTo r f t) (Cell o s n i role) inx h = cc
+  migrates_upward (MigrateTo r f t) (Operation o s n i role) inx h = cc
   migrates_upward (MigrateTo r f t) (MigrateTo s g u) inx h = cc
   migrates_upward (Fence n) y inx h = cc
   migrates_upward (Probe r n) y inx h = cc
-  migrates_upward (Cell o r n i role) y inx h = cc
+  migrates_upward (Operation o r n i role) y inx h = cc
 
   -- the rules
   module _ (x y : Action) (inx : Contains actions x) (iny : Contains actions y) where

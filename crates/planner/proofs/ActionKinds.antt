@@ -7,7 +7,7 @@ use Rattle.std.proofs.lemmas.Option.{get_or_from_slice_get, slice_get_within}
 use Rattle.lemmas.proofs.Members.{head_or_rest, in_none}
 use Rattle.cluster_types.specs.declared.cluster.Cluster.{Cluster}
 use Rattle.cluster_types.specs.declared.journal.Action.{Action}
-use Rattle.cluster_types.specs.declared.journal.Action.TheVariants.{Fence, Probe, Cell, MigrateTo, MigrateFrom}
+use Rattle.cluster_types.specs.declared.journal.Action.TheVariants.{Fence, Probe, Operation, MigrateTo, MigrateFrom}
 use Rattle.cluster_types.specs.declared.leaf.Leaf.{Leaf}
 use Rattle.cluster_types.specs.declared.leaf.Monitor.{Monitor as MonitorOf}
 use Rattle.cluster_types.specs.declared.leaf.Op.TheVariants as op
@@ -67,11 +67,11 @@ few_apart c valid r = few_apart_of c valid r (slice_get c.leaves r) refl
 abbrev pub kind : Cluster → Action → ℕ
 kind c (Fence n) = 15
 kind c (Probe r n) = 0
-kind c (Cell op.Start r n i role) = 1
-kind c (Cell op.Stop r n i role) = 2
-kind c (Cell op.Promote r n i role) = 3
-kind c (Cell op.Demote r n i role) = 4
-kind c (Cell op.Monitor r n i role) = 7 + index_by (monitors c r) i
+kind c (Operation op.Start r n i role) = 1
+kind c (Operation op.Stop r n i role) = 2
+kind c (Operation op.Promote r n i role) = 3
+kind c (Operation op.Demote r n i role) = 4
+kind c (Operation op.Monitor r n i role) = 7 + index_by (monitors c r) i
 kind c (MigrateTo r s t) = 5
 kind c (MigrateFrom r s t) = 6
 
@@ -79,6 +79,6 @@ kind c (MigrateFrom r s t) = 6
 abbrev pub node_of : Action → ℕ
 node_of (Fence n) = n
 node_of (Probe r n) = n
-node_of (Cell o r n i role) = n
+node_of (Operation o r n i role) = n
 node_of (MigrateTo r s t) = s
 node_of (MigrateFrom r s t) = t

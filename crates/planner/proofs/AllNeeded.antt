@@ -7,7 +7,7 @@ use Rattle.lemmas.proofs.Booleans.{later, sooner}
 use Rattle.lemmas.proofs.Members.{at_head, head_or_rest, in_filter, in_flat, in_if, in_map, in_none, in_range, in_rest, of_filter, of_flat, of_map, of_range}
 use Rattle.cluster_types.specs.declared.cluster.Cluster.{Cluster}
 use Rattle.cluster_types.specs.declared.journal.Action.{Action}
-use Rattle.cluster_types.specs.declared.journal.Action.TheVariants.{Fence, Probe, Cell, MigrateTo, MigrateFrom}
+use Rattle.cluster_types.specs.declared.journal.Action.TheVariants.{Fence, Probe, Operation, MigrateTo, MigrateFrom}
 use Rattle.cluster_types.specs.declared.journal.Event.{Event}
 use Rattle.cluster_types.specs.declared.leaf.Monitor.{Monitor as MonitorOf}
 use Rattle.cluster_types.specs.declared.leaf.Op.{Op}
@@ -34,15 +34,15 @@ use Rattle.planner.proofs.StepsGot.{Tells, any_got, gets, gets_any, got}
 use Rattle.planner.proofs.Watches.{bits_are, needs_it, runs, wanted_is}
 
 abbrev leaf_of : Action → ℕ
-leaf_of (Cell o r n interval role) = r
+leaf_of (Operation o r n interval role) = r
 leaf_of _ = 0
 
 abbrev node_of : Action → ℕ
-node_of (Cell o r n interval role) = n
+node_of (Operation o r n interval role) = n
 node_of _ = 0
 
 abbrev word_of : Action → Op
-word_of (Cell o r n interval role) = o
+word_of (Operation o r n interval role) = o
 word_of _ = op.Monitor
 
 -- a leaf that is sent to a node is sent from another
@@ -67,10 +67,10 @@ waiting false true (inr e) = cc
 waiting false false h = refl
 
 module _ (c : Cluster) (es : List Event) (targets : Targets) where
-  stop_of : (r n : ℕ) → NeededBeforeMigration c es targets (Cell op.Stop r n 0 role.Started) → GetsStep c es targets r n op.Stop
+  stop_of : (r n : ℕ) → NeededBeforeMigration c es targets (Operation op.Stop r n 0 role.Started) → GetsStep c es targets r n op.Stop
   stop_of r n (step _ _ _ h l g) = g
 
-  start_of : (r n : ℕ) → NeededBeforeMigration c es targets (Cell op.Start r n 0 role.Started) → GetsStep c es targets r n op.Start
+  start_of : (r n : ℕ) → NeededBeforeMigration c es targets (Operation op.Start r n 0 role.Started) → GetsStep c es targets r n op.Start
   start_of r n (step _ _ _ h l g) = g
 
   -- what gets a step isn't pinned
@@ -186,7 +186,7 @@ module _ (c : Cluster) (es : List Event) (targets : Targets) where
     module _ (fences : List Action) (fenced : (n : ℕ) → n < length c.nodes → is_to_be_fenced c n es ≡ true → Contains fences (Fence n))
         (only : (a : Action) → Contains fences a → Needed c es targets a) where
       step_kept : (r n : ℕ) (o : Op) → r < length c.leaves → n < length c.nodes → GetsStep c es targets r n o
-          → ((s t m : ℕ) → Migrates c es targets s t m → Cell o r n 0 role.Started ≢ Cell op.Start s m 0 role.Started)
+          → ((s t m : ℕ) → Migrates c es targets s t m → Operation o r n 0 role.Started ≢ Operation op.Start s m 0 role.Started)
           → stays_needed (is_elsewhere (source r) n) o ≡ true
       step_kept r n o lr ln g k = on (is_elsewhere (source r) n && is_same_op op.Start o) refl where
         on : (b : Bool) → (is_elsewhere (source r) n && is_same_op op.Start o) ≡ b → not b ≡ true
@@ -195,9 +195,9 @@ module _ (c : Cluster) (es : List Event) (targets : Targets) where
             let w = elsewhere_of (source r) n (sooner (is_elsewhere (source r) n) _ e) in
             let same : op.Start ≡ o = same_op op.Start o (later (is_elsewhere (source r) n) _ e) in
             let start : GetsStep c es targets r n op.Start = subst (GetsStep c es targets r n) (sym same) g in
-            absurd (k r w.source n (migrates r w.source n lr ln w.is w.away start) (ap (λ (p : Op). Cell p r n 0 role.Started) (sym same)))
+            absurd (k r w.source n (migrates r w.source n lr ln w.is w.away start) (ap (λ (p : Op). Operation p r n 0 role.Started) (sym same)))
 
-      first_there : (a : Action) → NeededBeforeMigration c es targets a → ((r n m : ℕ) → Migrates c es targets r n m → a ≢ Cell op.Start r m 0 role.Started)
+      first_there : (a : Action) → NeededBeforeMigration c es targets a → ((r n m : ℕ) → Migrates c es targets r n m → a ≢ Operation op.Start r m 0 role.Started)
           → Contains (fences ++ all) a
       first_there _ (fence n ln h) k = Contains-append_left fences all (Fence n) (fenced n ln h)
       first_there _ (probe r n lr ln h) k =

@@ -8,7 +8,7 @@ use Rattle.std.proofs.lemmas.List.Elements.{Contains-get_or}
 use Rattle.std.proofs.lemmas.Option.{slice_get-get_or, unwrap_or-slice_get}
 use Rattle.cluster_types.specs.declared.cluster.Cluster.{Cluster}
 use Rattle.cluster_types.specs.declared.journal.Action.{Action}
-use Rattle.cluster_types.specs.declared.journal.Action.TheVariants.{Fence, Probe, Cell, MigrateTo, MigrateFrom}
+use Rattle.cluster_types.specs.declared.journal.Action.TheVariants.{Fence, Probe, Operation, MigrateTo, MigrateFrom}
 use Rattle.cluster_types.specs.declared.leaf.Op.TheVariants as op
 use Rattle.cluster_types.specs.Precedence.{change_cell}
 use Rattle.planner.specs.Chains.{changed_node, is_at, changed_node_at}
@@ -51,11 +51,11 @@ no_buckets key nodes buckets e m within = ap (λ v. unwrap_or (slice_get v m) []
 changed_within : (c : Cluster) (a : Action) → IsActionWithin c a → IfSome (changed_node (change_cell a)) (λ m. m < length c.nodes)
 changed_within c (Fence n) h = tt
 changed_within c (Probe r n) h = tt
-changed_within c (Cell op.Start r n i role) h = h.1
-changed_within c (Cell op.Stop r n i role) h = h.1
-changed_within c (Cell op.Promote r n i role) h = h.1
-changed_within c (Cell op.Demote r n i role) h = h.1
-changed_within c (Cell op.Monitor r n i role) h = tt
+changed_within c (Operation op.Start r n i role) h = h.1
+changed_within c (Operation op.Stop r n i role) h = h.1
+changed_within c (Operation op.Promote r n i role) h = h.1
+changed_within c (Operation op.Demote r n i role) h = h.1
+changed_within c (Operation op.Monitor r n i role) h = tt
 changed_within c (MigrateTo r s t) h = tt
 changed_within c (MigrateFrom r s t) h = tt
 

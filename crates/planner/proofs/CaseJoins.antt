@@ -5,7 +5,7 @@ use Rattle.std.proofs.Math.Bool.{or-false, and-true, or-true}
 use Rattle.lemmas.proofs.Booleans.{equal_turned}
 use Rattle.cluster_types.specs.declared.cluster.Cluster.{Cluster}
 use Rattle.cluster_types.specs.declared.journal.Action.{Action}
-use Rattle.cluster_types.specs.declared.journal.Action.TheVariants.{Fence, Probe, Cell, MigrateTo, MigrateFrom}
+use Rattle.cluster_types.specs.declared.journal.Action.TheVariants.{Fence, Probe, Operation, MigrateTo, MigrateFrom}
 use Rattle.cluster_types.specs.declared.leaf.Op.TheVariants as op
 use Rattle.cluster_types.specs.Fields.{copies}
 use Rattle.cluster_types.specs.Precedence.{CellOf, both, cell_of, comes_first_in_cell, fences_first, gives_any, is_one_cell, is_one_leaf, is_some_cell, migrates_first, op_cell}
@@ -43,7 +43,7 @@ fences_joined (Fence n) y = on (gives_any y)
     on (Some a) = refl
     on None = refl
 fences_joined (Probe r n) y = refl
-fences_joined (Cell o r n i role) y = refl
+fences_joined (Operation o r n i role) y = refl
 fences_joined (MigrateTo r s t) y = refl
 fences_joined (MigrateFrom r s t) y = refl
 
@@ -51,11 +51,11 @@ fences_joined (MigrateFrom r s t) y = refl
 pub taken_joined : (x : Action) (v : Option CellOf) → (both is_one_leaf (op_cell op.Demote x) v || both is_one_leaf (op_cell op.Stop x) v) ≡ both is_one_leaf (take_cell x) v
 taken_joined (Fence n) v = refl
 taken_joined (Probe r n) v = refl
-taken_joined (Cell op.Start r n i role) v = refl
-taken_joined (Cell op.Stop r n i role) v = refl
-taken_joined (Cell op.Promote r n i role) v = refl
-taken_joined (Cell op.Demote r n i role) v = or-false (both is_one_leaf (cell_of r n) v)
-taken_joined (Cell op.Monitor r n i role) v = refl
+taken_joined (Operation op.Start r n i role) v = refl
+taken_joined (Operation op.Stop r n i role) v = refl
+taken_joined (Operation op.Promote r n i role) v = refl
+taken_joined (Operation op.Demote r n i role) v = or-false (both is_one_leaf (cell_of r n) v)
+taken_joined (Operation op.Monitor r n i role) v = refl
 taken_joined (MigrateTo r s t) v = refl
 taken_joined (MigrateFrom r s t) v = refl
 
@@ -77,22 +77,22 @@ pub in_cell_joined : (x y : Action) → (comes_first_in_cell x y || migrates_fir
     || (both is_one_cell (before_monitor x) (op_cell op.Monitor y) || both is_one_cell (send_cell x) (take_in_cell y))))
 in_cell_joined (Fence n) y = refl
 in_cell_joined (Probe r n) y = refl
-in_cell_joined (Cell op.Start r n i role) y = both_last (both is_one_cell (cell_of r n) (op_cell op.Promote y)) (both is_one_cell (cell_of r n) (op_cell op.Monitor y))
-in_cell_joined (Cell op.Stop r n i role) y = refl
-in_cell_joined (Cell op.Promote r n i role) y = refl
-in_cell_joined (Cell op.Demote r n i role) y = first_and_last (both is_one_cell (cell_of r n) (op_cell op.Stop y)) (both is_one_cell (cell_of r n) (op_cell op.Monitor y))
-in_cell_joined (Cell op.Monitor r n i role) y = refl
+in_cell_joined (Operation op.Start r n i role) y = both_last (both is_one_cell (cell_of r n) (op_cell op.Promote y)) (both is_one_cell (cell_of r n) (op_cell op.Monitor y))
+in_cell_joined (Operation op.Stop r n i role) y = refl
+in_cell_joined (Operation op.Promote r n i role) y = refl
+in_cell_joined (Operation op.Demote r n i role) y = first_and_last (both is_one_cell (cell_of r n) (op_cell op.Stop y)) (both is_one_cell (cell_of r n) (op_cell op.Monitor y))
+in_cell_joined (Operation op.Monitor r n i role) y = refl
 in_cell_joined (MigrateTo r s t) (Fence n) = refl
 in_cell_joined (MigrateTo r s t) (Probe q n) = refl
-in_cell_joined (MigrateTo r s t) (Cell o q n i role) = refl
+in_cell_joined (MigrateTo r s t) (Operation o q n i role) = refl
 in_cell_joined (MigrateTo r s t) (MigrateTo q f g) = refl
 in_cell_joined (MigrateTo r s t) (MigrateFrom q f g) = sym (and-true (r == q))
 in_cell_joined (MigrateFrom r s t) (Fence n) = refl
 in_cell_joined (MigrateFrom r s t) (Probe q n) = refl
-in_cell_joined (MigrateFrom r s t) (Cell op.Start q n i role) = refl
-in_cell_joined (MigrateFrom r s t) (Cell op.Stop q n i role) = ap (λ v. (r == q) && v) (equal_turned n s) ∙ sym (or-false ((r == q) && (s == n)))
-in_cell_joined (MigrateFrom r s t) (Cell op.Promote q n i role) = refl
-in_cell_joined (MigrateFrom r s t) (Cell op.Demote q n i role) = refl
-in_cell_joined (MigrateFrom r s t) (Cell op.Monitor q n i role) = ap (λ v. (r == q) && v) (equal_turned n t) ∙ sym (or-false ((r == q) && (t == n)))
+in_cell_joined (MigrateFrom r s t) (Operation op.Start q n i role) = refl
+in_cell_joined (MigrateFrom r s t) (Operation op.Stop q n i role) = ap (λ v. (r == q) && v) (equal_turned n s) ∙ sym (or-false ((r == q) && (s == n)))
+in_cell_joined (MigrateFrom r s t) (Operation op.Promote q n i role) = refl
+in_cell_joined (MigrateFrom r s t) (Operation op.Demote q n i role) = refl
+in_cell_joined (MigrateFrom r s t) (Operation op.Monitor q n i role) = ap (λ v. (r == q) && v) (equal_turned n t) ∙ sym (or-false ((r == q) && (t == n)))
 in_cell_joined (MigrateFrom r s t) (MigrateTo q f g) = refl
 in_cell_joined (MigrateFrom r s t) (MigrateFrom q f g) = refl

@@ -2,7 +2,7 @@
 use Rattle.std.proofs.Common.{arith, ◌<◌, ◌==◌, nat_lt, if◌then◌else◌, ℕ, Bool, true, false, Option, Some, None, length, IfSome}
 use Rattle.cluster_types.specs.declared.cluster.Cluster.{Cluster}
 use Rattle.cluster_types.specs.declared.journal.Action.{Action}
-use Rattle.cluster_types.specs.declared.journal.Action.TheVariants.{Fence, Probe, Cell, MigrateTo, MigrateFrom}
+use Rattle.cluster_types.specs.declared.journal.Action.TheVariants.{Fence, Probe, Operation, MigrateTo, MigrateFrom}
 use Rattle.cluster_types.specs.declared.leaf.Op.{Op}
 use Rattle.cluster_types.specs.declared.leaf.Op.TheVariants as op
 use Rattle.cluster_types.specs.Fields.{copies}
@@ -20,7 +20,7 @@ module _ (c : Cluster) where
   pub op_here : (o : Op) (a : Action) → IsActionWithin c a → Here (op_cell o a)
   op_here o (Fence n) h = tt
   op_here o (Probe r n) h = tt
-  op_here o (Cell p r n i role) h = on (is_same_op o p)
+  op_here o (Operation p r n i role) h = on (is_same_op o p)
     where
       on : (b : Bool) → Here (if b then cell_of r n else None)
       on true = h
@@ -31,61 +31,61 @@ module _ (c : Cluster) where
   pub probe_here : (a : Action) → IsActionWithin c a → Here (probe_cell a)
   probe_here (Fence n) h = tt
   probe_here (Probe r n) h = h
-  probe_here (Cell p r n i role) h = tt
+  probe_here (Operation p r n i role) h = tt
   probe_here (MigrateTo r s t) h = tt
   probe_here (MigrateFrom r s t) h = tt
 
   pub start_here : (a : Action) → IsActionWithin c a → Here (start_cell a)
   start_here (Fence n) h = tt
   start_here (Probe r n) h = tt
-  start_here (Cell p r n i role) h = op_here op.Start (Cell p r n i role) h
+  start_here (Operation p r n i role) h = op_here op.Start (Operation p r n i role) h
   start_here (MigrateTo r s t) h = (h.0, h.2)
   start_here (MigrateFrom r s t) h = tt
 
   pub gives_here : (a : Action) → IsActionWithin c a → Here (gives_any a)
   gives_here (Fence n) h = tt
   gives_here (Probe r n) h = tt
-  gives_here (Cell op.Start r n i role) h = h
-  gives_here (Cell op.Stop r n i role) h = tt
-  gives_here (Cell op.Promote r n i role) h = h
-  gives_here (Cell op.Demote r n i role) h = tt
-  gives_here (Cell op.Monitor r n i role) h = tt
+  gives_here (Operation op.Start r n i role) h = h
+  gives_here (Operation op.Stop r n i role) h = tt
+  gives_here (Operation op.Promote r n i role) h = h
+  gives_here (Operation op.Demote r n i role) h = tt
+  gives_here (Operation op.Monitor r n i role) h = tt
   gives_here (MigrateTo r s t) h = (h.0, h.2)
   gives_here (MigrateFrom r s t) h = tt
 
   pub change_here : (a : Action) → IsActionWithin c a → Here (change_cell a)
   change_here (Fence n) h = tt
   change_here (Probe r n) h = tt
-  change_here (Cell op.Start r n i role) h = h
-  change_here (Cell op.Stop r n i role) h = h
-  change_here (Cell op.Promote r n i role) h = h
-  change_here (Cell op.Demote r n i role) h = h
-  change_here (Cell op.Monitor r n i role) h = tt
+  change_here (Operation op.Start r n i role) h = h
+  change_here (Operation op.Stop r n i role) h = h
+  change_here (Operation op.Promote r n i role) h = h
+  change_here (Operation op.Demote r n i role) h = h
+  change_here (Operation op.Monitor r n i role) h = tt
   change_here (MigrateTo r s t) h = tt
   change_here (MigrateFrom r s t) h = tt
 
   pub before_stop_here : (a : Action) → IsActionWithin c a → Here (before_stop a)
   before_stop_here (Fence n) h = tt
   before_stop_here (Probe r n) h = tt
-  before_stop_here (Cell p r n i role) h = op_here op.Demote (Cell p r n i role) h
+  before_stop_here (Operation p r n i role) h = op_here op.Demote (Operation p r n i role) h
   before_stop_here (MigrateTo r s t) h = tt
   before_stop_here (MigrateFrom r s t) h = (h.0, h.1)
 
   pub before_monitor_here : (a : Action) → IsActionWithin c a → Here (before_monitor a)
   before_monitor_here (Fence n) h = tt
   before_monitor_here (Probe r n) h = tt
-  before_monitor_here (Cell p r n i role) h = change_here (Cell p r n i role) h
+  before_monitor_here (Operation p r n i role) h = change_here (Operation p r n i role) h
   before_monitor_here (MigrateTo r s t) h = tt
   before_monitor_here (MigrateFrom r s t) h = (h.0, h.2)
 
   pub take_here : (a : Action) → IsActionWithin c a → Here (take_cell a)
   take_here (Fence n) h = tt
   take_here (Probe r n) h = tt
-  take_here (Cell op.Start r n i role) h = tt
-  take_here (Cell op.Stop r n i role) h = h
-  take_here (Cell op.Promote r n i role) h = tt
-  take_here (Cell op.Demote r n i role) h = h
-  take_here (Cell op.Monitor r n i role) h = tt
+  take_here (Operation op.Start r n i role) h = tt
+  take_here (Operation op.Stop r n i role) h = h
+  take_here (Operation op.Promote r n i role) h = tt
+  take_here (Operation op.Demote r n i role) h = h
+  take_here (Operation op.Monitor r n i role) h = tt
   take_here (MigrateTo r s t) h = tt
   take_here (MigrateFrom r s t) h = tt
 
@@ -117,20 +117,20 @@ module _ (c : Cluster) where
   pub fence_in : (a : Action) → In 1 1 (fence_cell a)
   fence_in (Fence n) = (omega arith, omega arith)
   fence_in (Probe r n) = tt
-  fence_in (Cell p r n i role) = tt
+  fence_in (Operation p r n i role) = tt
   fence_in (MigrateTo r s t) = tt
   fence_in (MigrateFrom r s t) = tt
 
   pub send_in : (a : Action) → IsActionWithin c a → In (length c.leaves) 1 (send_cell a)
   send_in (Fence n) h = tt
   send_in (Probe r n) h = tt
-  send_in (Cell p r n i role) h = tt
+  send_in (Operation p r n i role) h = tt
   send_in (MigrateTo r s t) h = (h.0, omega arith)
   send_in (MigrateFrom r s t) h = tt
 
   pub take_in_in : (a : Action) → IsActionWithin c a → In (length c.leaves) 1 (take_in_cell a)
   take_in_in (Fence n) h = tt
   take_in_in (Probe r n) h = tt
-  take_in_in (Cell p r n i role) h = tt
+  take_in_in (Operation p r n i role) h = tt
   take_in_in (MigrateTo r s t) h = tt
   take_in_in (MigrateFrom r s t) h = (h.0, omega arith)

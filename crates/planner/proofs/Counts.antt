@@ -6,7 +6,7 @@ use Rattle.std.proofs.lemmas.Bool.{eq-eqb, eqb-true}
 use Rattle.std.proofs.lemmas.List.{append_assoc, length-append, length_push}
 use Rattle.std.proofs.lemmas.List.Sums.{length-filter, sum_by-cons, sum_by-le-sum_by}
 use Rattle.cluster_types.specs.declared.journal.Action.{Action}
-use Rattle.cluster_types.specs.declared.journal.Action.TheVariants.{Fence, Probe, Cell, MigrateTo, MigrateFrom}
+use Rattle.cluster_types.specs.declared.journal.Action.TheVariants.{Fence, Probe, Operation, MigrateTo, MigrateFrom}
 use Rattle.cluster_types.specs.Plans.{is_of_either}
 use Rattle.planner.specs.Inner.Places.{is_of_leaf, leaf_places, rule_places}
 
@@ -44,7 +44,7 @@ either_test r s leaf false b d e f = omega arith
 either_at : (r s : ℕ) → (r == s) ≡ false → (a : Action) → cond (is_of_leaf r a) 1 0 + cond (is_of_leaf s a) 1 0 ≤ cond (is_of_either r s a) 1 0
 either_at r s d (Fence n) = omega arith
 either_at r s d (Probe leaf n) = either_test r s leaf (leaf == r) (leaf == s) d refl refl
-either_at r s d (Cell o leaf n i role) = either_test r s leaf (leaf == r) (leaf == s) d refl refl
+either_at r s d (Operation o leaf n i role) = either_test r s leaf (leaf == r) (leaf == s) d refl refl
 either_at r s d (MigrateTo leaf f t) = either_test r s leaf (leaf == r) (leaf == s) d refl refl
 either_at r s d (MigrateFrom leaf f t) = either_test r s leaf (leaf == r) (leaf == s) d refl refl
 
@@ -55,7 +55,7 @@ one_test false b = omega arith
 one_at : (r s : ℕ) (a : Action) → cond (is_of_leaf r a) 1 0 ≤ cond (is_of_either r s a) 1 0
 one_at r s (Fence n) = omega arith
 one_at r s (Probe leaf n) = one_test (leaf == r) (leaf == s)
-one_at r s (Cell o leaf n i role) = one_test (leaf == r) (leaf == s)
+one_at r s (Operation o leaf n i role) = one_test (leaf == r) (leaf == s)
 one_at r s (MigrateTo leaf f t) = one_test (leaf == r) (leaf == s)
 one_at r s (MigrateFrom leaf f t) = one_test (leaf == r) (leaf == s)
 
@@ -94,7 +94,7 @@ swapped_test false false = omega arith
 swapped_at : (r s : ℕ) (a : Action) → cond {A = ℕ} (is_of_either s r a) 1 0 ≤ cond {A = ℕ} (is_of_either r s a) 1 0
 swapped_at r s (Fence n) = omega arith
 swapped_at r s (Probe leaf n) = swapped_test (leaf == s) (leaf == r)
-swapped_at r s (Cell o leaf n i role) = swapped_test (leaf == s) (leaf == r)
+swapped_at r s (Operation o leaf n i role) = swapped_test (leaf == s) (leaf == r)
 swapped_at r s (MigrateTo leaf f t) = swapped_test (leaf == s) (leaf == r)
 swapped_at r s (MigrateFrom leaf f t) = swapped_test (leaf == s) (leaf == r)
 

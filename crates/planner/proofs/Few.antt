@@ -14,7 +14,7 @@ use Rattle.std.proofs.lemmas.Nat.{same_from_place}
 use Rattle.lemmas.proofs.Members.{of_filter, of_map}
 use Rattle.cluster_types.specs.declared.cluster.Cluster.{Cluster}
 use Rattle.cluster_types.specs.declared.journal.Action.{Action}
-use Rattle.cluster_types.specs.declared.journal.Action.TheVariants.{Fence, Probe, Cell, MigrateTo, MigrateFrom}
+use Rattle.cluster_types.specs.declared.journal.Action.TheVariants.{Fence, Probe, Operation, MigrateTo, MigrateFrom}
 use Rattle.cluster_types.specs.declared.leaf.Op.TheVariants as op
 use Rattle.cluster_types.specs.declared.rules.Colocation.{Colocation}
 use Rattle.cluster_types.specs.declared.rules.Order.{Order}
@@ -93,7 +93,7 @@ module _ (c : Cluster) (actions : List Action) (valid : IsValid c) (planned : Ar
   cell_below : (x : Action) → IsActionWithin c x → (action_leaf x < 1000) × (node_of x < 256)
   cell_below (Fence n) h = let nodes = valid.limits.nodes in (omega arith, omega arith)
   cell_below (Probe r n) h = let nodes = valid.limits.nodes in let leaves = valid.limits.leaves in let a = h.0 in let b = h.1 in (omega arith, omega arith)
-  cell_below (Cell o r n i role) h = let nodes = valid.limits.nodes in let leaves = valid.limits.leaves in let a = h.0 in let b = h.1 in (omega arith, omega arith)
+  cell_below (Operation o r n i role) h = let nodes = valid.limits.nodes in let leaves = valid.limits.leaves in let a = h.0 in let b = h.1 in (omega arith, omega arith)
   cell_below (MigrateTo r s t) h = let nodes = valid.limits.nodes in let leaves = valid.limits.leaves in let a = h.0 in let b = h.1 in (omega arith, omega arith)
   cell_below (MigrateFrom r s t) h = let nodes = valid.limits.nodes in let leaves = valid.limits.leaves in let a = h.0 in let b = h.2 in (omega arith, omega arith)
 
@@ -132,7 +132,7 @@ module _ (c : Cluster) (actions : List Action) (valid : IsValid c) (planned : Ar
   its_leaf : (r : ℕ) (x : Action) → is_of_leaf r x ≡ true → action_leaf x ≡ r
   its_leaf r (Fence n) h = cc
   its_leaf r (Probe s n) h = eqb-true s r h
-  its_leaf r (Cell o s n i role) h = eqb-true s r h
+  its_leaf r (Operation o s n i role) h = eqb-true s r h
   its_leaf r (MigrateTo s f t) h = eqb-true s r h
   its_leaf r (MigrateFrom s f t) h = eqb-true s r h
 
@@ -160,7 +160,7 @@ module _ (c : Cluster) (actions : List Action) (valid : IsValid c) (planned : Ar
   either_at : (r s : ℕ) (x : Action) → cond {A = ℕ} (is_of_either r s x) 1 0 ≤ cond {A = ℕ} (is_of_leaf r x) 1 0 + cond {A = ℕ} (is_of_leaf s x) 1 0
   either_at r s (Fence n) = omega arith
   either_at r s (Probe leaf n) = either_test (leaf == r) (leaf == s)
-  either_at r s (Cell o leaf n i role) = either_test (leaf == r) (leaf == s)
+  either_at r s (Operation o leaf n i role) = either_test (leaf == r) (leaf == s)
   either_at r s (MigrateTo leaf f t) = either_test (leaf == r) (leaf == s)
   either_at r s (MigrateFrom leaf f t) = either_test (leaf == r) (leaf == s)
 

@@ -6,7 +6,7 @@ use Rattle.std.proofs.lemmas.List.{get_or-set_same, get_or-set_other, take_more}
 use Rattle.std.proofs.lemmas.List.Folds.{list_any-append}
 use Rattle.std.proofs.Math.Bool.{or-false, or-true}
 use Rattle.cluster_types.specs.declared.journal.Action.{Action}
-use Rattle.cluster_types.specs.declared.journal.Action.TheVariants.{Fence, Probe, Cell, MigrateTo, MigrateFrom}
+use Rattle.cluster_types.specs.declared.journal.Action.TheVariants.{Fence, Probe, Operation, MigrateTo, MigrateFrom}
 use Rattle.cluster_types.specs.Precedence.{is_migrating, sends}
 use Rattle.planner.specs.Inner.Flags.{send_if, with_flag}
 use Rattle.loops.specs.Ranks.{AreMigrating}
@@ -14,14 +14,14 @@ use Rattle.loops.specs.Ranks.{AreMigrating}
 sends_is : (r : ℕ) (a : Action) (q : ℕ) → send_if a ≡ Some q → sends r a ≡ (q == r)
 sends_is r (Fence n) q h = cc
 sends_is r (Probe s n) q h = cc
-sends_is r (Cell o s n i role) q h = cc
+sends_is r (Operation o s n i role) q h = cc
 sends_is r (MigrateTo s f t) q h = let e : s ≡ q = cc in ap (λ v. v == r) e
 sends_is r (MigrateFrom s f t) q h = cc
 
 sends_none : (r : ℕ) (a : Action) → send_if a ≡ None → sends r a ≡ false
 sends_none r (Fence n) h = refl
 sends_none r (Probe s n) h = refl
-sends_none r (Cell o s n i role) h = refl
+sends_none r (Operation o s n i role) h = refl
 sends_none r (MigrateTo s f t) h = cc
 sends_none r (MigrateFrom s f t) h = refl
 

@@ -7,7 +7,7 @@ use Rattle.std.proofs.lemmas.List.{append-nil, get_or-set_other, get_or-set_same
 use Rattle.std.proofs.lemmas.Option.{unwrap_or-slice_get}
 use Rattle.lemmas.proofs.Ranges.{range-more}
 use Rattle.cluster_types.specs.declared.journal.Action.{Action}
-use Rattle.cluster_types.specs.declared.journal.Action.TheVariants.{Fence, Probe, Cell, MigrateTo, MigrateFrom}
+use Rattle.cluster_types.specs.declared.journal.Action.TheVariants.{Fence, Probe, Operation, MigrateTo, MigrateFrom}
 use Rattle.planner.specs.Inner.Index.{IsIndexBefore, leaf_if, leaf_places_before, with_place}
 use Rattle.planner.specs.Inner.Places.{is_of_leaf}
 
@@ -33,14 +33,14 @@ module _ (actions : List Action) (r place : ℕ) (a : Action) (at : slice_get ac
 leaf_is : (r : ℕ) (a : Action) (q : ℕ) → leaf_if a ≡ Some q → is_of_leaf r a ≡ (q == r)
 leaf_is r (Fence n) q h = cc
 leaf_is r (Probe s n) q h = let e : s ≡ q = cc in ap (λ v. v == r) e
-leaf_is r (Cell o s n i role) q h = let e : s ≡ q = cc in ap (λ v. v == r) e
+leaf_is r (Operation o s n i role) q h = let e : s ≡ q = cc in ap (λ v. v == r) e
 leaf_is r (MigrateTo s f t) q h = let e : s ≡ q = cc in ap (λ v. v == r) e
 leaf_is r (MigrateFrom s f t) q h = let e : s ≡ q = cc in ap (λ v. v == r) e
 
 no_leaf_is : (r : ℕ) (a : Action) → leaf_if a ≡ None → is_of_leaf r a ≡ false
 no_leaf_is r (Fence n) h = refl
 no_leaf_is r (Probe s n) h = cc
-no_leaf_is r (Cell o s n i role) h = cc
+no_leaf_is r (Operation o s n i role) h = cc
 no_leaf_is r (MigrateTo s f t) h = cc
 no_leaf_is r (MigrateFrom s f t) h = cc
 

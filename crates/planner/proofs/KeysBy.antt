@@ -6,7 +6,7 @@ use Rattle.planner.specs.Gates.{key_at}
 use Rattle.loops.specs.Ranks.{AreMigrating}
 use Rattle.cluster_types.specs.declared.cluster.Cluster.{Cluster}
 use Rattle.cluster_types.specs.declared.journal.Action.{Action}
-use Rattle.cluster_types.specs.declared.journal.Action.TheVariants.{Fence, Probe, Cell, MigrateTo, MigrateFrom}
+use Rattle.cluster_types.specs.declared.journal.Action.TheVariants.{Fence, Probe, Operation, MigrateTo, MigrateFrom}
 use Rattle.cluster_types.specs.declared.leaf.Op.{Op}
 use Rattle.cluster_types.specs.declared.leaf.Op.TheVariants as op
 use Rattle.planner.specs.declared.precedence.sides.Side.{Side}
@@ -22,11 +22,11 @@ module _ (actions : List Action) where
   stop_by : (a : Action) → later_stop (moves a) a ≡ as_later actions op.Stop a
   stop_by (Fence n) = refl
   stop_by (Probe r n) = refl
-  stop_by (Cell op.Start r n i role) = refl
-  stop_by (Cell op.Stop r n i role) = refl
-  stop_by (Cell op.Promote r n i role) = refl
-  stop_by (Cell op.Demote r n i role) = refl
-  stop_by (Cell op.Monitor r n i role) = refl
+  stop_by (Operation op.Start r n i role) = refl
+  stop_by (Operation op.Stop r n i role) = refl
+  stop_by (Operation op.Promote r n i role) = refl
+  stop_by (Operation op.Demote r n i role) = refl
+  stop_by (Operation op.Monitor r n i role) = refl
   stop_by (MigrateTo r s t) = refl
   stop_by (MigrateFrom r s t) = refl
 
@@ -40,11 +40,11 @@ module _ (actions : List Action) where
   demote_by : (a : Action) → later_demote_by (moves a) a ≡ later_demote actions a
   demote_by (Fence n) = refl
   demote_by (Probe r n) = refl
-  demote_by (Cell op.Start r n i role) = refl
-  demote_by (Cell op.Stop r n i role) = refl
-  demote_by (Cell op.Promote r n i role) = refl
-  demote_by (Cell op.Demote r n i role) = refl
-  demote_by (Cell op.Monitor r n i role) = refl
+  demote_by (Operation op.Start r n i role) = refl
+  demote_by (Operation op.Stop r n i role) = refl
+  demote_by (Operation op.Promote r n i role) = refl
+  demote_by (Operation op.Demote r n i role) = refl
+  demote_by (Operation op.Monitor r n i role) = refl
   demote_by (MigrateTo r s t) = refl
   demote_by (MigrateFrom r s t) = refl
 

@@ -2,7 +2,7 @@
 use Rattle.std.proofs.Common.{if◌then◌else◌, Bool, true, false, List, None}
 use Rattle.cluster_types.specs.declared.cluster.Cluster.{Cluster}
 use Rattle.cluster_types.specs.declared.journal.Action.{Action}
-use Rattle.cluster_types.specs.declared.journal.Action.TheVariants.{Fence, Probe, Cell, MigrateTo, MigrateFrom}
+use Rattle.cluster_types.specs.declared.journal.Action.TheVariants.{Fence, Probe, Operation, MigrateTo, MigrateFrom}
 use Rattle.cluster_types.specs.declared.leaf.Op.{Op}
 use Rattle.cluster_types.specs.declared.leaf.Op.TheVariants as op
 use Rattle.cluster_types.specs.declared.leaf.Role.{Role}
@@ -22,23 +22,23 @@ module _ (c : Cluster) where
   parts_here : (role : Role) (a : Action) → IsActionWithin c a → Here c (takes_or_probes role a)
   parts_here role.Started (Fence n) h = tt
   parts_here role.Started (Probe r n) h = h
-  parts_here role.Started (Cell o r n i other) h = op_here c op.Stop (Cell o r n i other) h
+  parts_here role.Started (Operation o r n i other) h = op_here c op.Stop (Operation o r n i other) h
   parts_here role.Started (MigrateTo r s t) h = tt
   parts_here role.Started (MigrateFrom r s t) h = tt
   parts_here role.Promoted (Fence n) h = tt
   parts_here role.Promoted (Probe r n) h = h
-  parts_here role.Promoted (Cell op.Start r n i other) h = tt
-  parts_here role.Promoted (Cell op.Stop r n i other) h = h
-  parts_here role.Promoted (Cell op.Promote r n i other) h = tt
-  parts_here role.Promoted (Cell op.Demote r n i other) h = h
-  parts_here role.Promoted (Cell op.Monitor r n i other) h = tt
+  parts_here role.Promoted (Operation op.Start r n i other) h = tt
+  parts_here role.Promoted (Operation op.Stop r n i other) h = h
+  parts_here role.Promoted (Operation op.Promote r n i other) h = tt
+  parts_here role.Promoted (Operation op.Demote r n i other) h = h
+  parts_here role.Promoted (Operation op.Monitor r n i other) h = tt
   parts_here role.Promoted (MigrateTo r s t) h = tt
   parts_here role.Promoted (MigrateFrom r s t) h = tt
 
   earlier_here : (o : Op) (a : Action) → IsActionWithin c a → Here c (as_earlier o a)
   earlier_here op.Start (Fence n) h = tt
   earlier_here op.Start (Probe r n) h = tt
-  earlier_here op.Start (Cell o r n i role) h = op_here c op.Start (Cell o r n i role) h
+  earlier_here op.Start (Operation o r n i role) h = op_here c op.Start (Operation o r n i role) h
   earlier_here op.Start (MigrateTo r s t) h = tt
   earlier_here op.Start (MigrateFrom r s t) h = (h.0, h.2)
   earlier_here op.Stop a h = op_here c op.Stop a h
@@ -57,15 +57,15 @@ module _ (c : Cluster) where
     later_stop_here : (a : Action) → IsActionWithin c a → Here c (as_later actions op.Stop a)
     later_stop_here (Fence n) h = tt
     later_stop_here (Probe r n) h = tt
-    later_stop_here (Cell op.Start r n i role) h = tt
-    later_stop_here (Cell op.Stop r n i role) h = on (is_migrating actions r)
+    later_stop_here (Operation op.Start r n i role) h = tt
+    later_stop_here (Operation op.Stop r n i role) h = on (is_migrating actions r)
       where
         on : (b : Bool) → Here c (if b then None else cell_of r n)
         on true = tt
         on false = h
-    later_stop_here (Cell op.Promote r n i role) h = tt
-    later_stop_here (Cell op.Demote r n i role) h = tt
-    later_stop_here (Cell op.Monitor r n i role) h = tt
+    later_stop_here (Operation op.Promote r n i role) h = tt
+    later_stop_here (Operation op.Demote r n i role) h = tt
+    later_stop_here (Operation op.Monitor r n i role) h = tt
     later_stop_here (MigrateTo r s t) h = (h.0, h.1)
     later_stop_here (MigrateFrom r s t) h = tt
 
@@ -79,11 +79,11 @@ module _ (c : Cluster) where
     later_demote_here : (a : Action) → IsActionWithin c a → Here c (later_demote actions a)
     later_demote_here (Fence n) h = tt
     later_demote_here (Probe r n) h = tt
-    later_demote_here (Cell op.Start r n i role) h = tt
-    later_demote_here (Cell op.Stop r n i role) h = later_stop_here (Cell op.Stop r n i role) h
-    later_demote_here (Cell op.Promote r n i role) h = tt
-    later_demote_here (Cell op.Demote r n i role) h = h
-    later_demote_here (Cell op.Monitor r n i role) h = tt
+    later_demote_here (Operation op.Start r n i role) h = tt
+    later_demote_here (Operation op.Stop r n i role) h = later_stop_here (Operation op.Stop r n i role) h
+    later_demote_here (Operation op.Promote r n i role) h = tt
+    later_demote_here (Operation op.Demote r n i role) h = h
+    later_demote_here (Operation op.Monitor r n i role) h = tt
     later_demote_here (MigrateTo r s t) h = (h.0, h.1)
     later_demote_here (MigrateFrom r s t) h = tt
 

@@ -4,7 +4,7 @@ use Rattle.std.proofs.lemmas.Bool.{eqb-true}
 use Rattle.lemmas.proofs.Booleans.{number_itself}
 use Rattle.cluster_types.specs.declared.cluster.Cluster.{Cluster}
 use Rattle.cluster_types.specs.declared.journal.Action.{Action}
-use Rattle.cluster_types.specs.declared.journal.Action.TheVariants.{Fence, Probe, Cell, MigrateTo, MigrateFrom}
+use Rattle.cluster_types.specs.declared.journal.Action.TheVariants.{Fence, Probe, Operation, MigrateTo, MigrateFrom}
 use Rattle.cluster_types.specs.declared.leaf.Op.{Op}
 use Rattle.cluster_types.specs.declared.leaf.Op.TheVariants as op
 use Rattle.cluster_types.specs.declared.leaf.Role.{Role}
@@ -22,9 +22,9 @@ Of a u = IfSome u (λ k. is_of_leaf k.leaf a ≡ true)
 op_of : (o : Op) (a : Action) → Of a (op_cell o a)
 op_of o (Fence n) = tt
 op_of o (Probe r n) = tt
-op_of o (Cell p r n i role) = on (is_same_op o p)
+op_of o (Operation p r n i role) = on (is_same_op o p)
   where
-    on : (b : Bool) → Of (Cell p r n i role) (if b then cell_of r n else None)
+    on : (b : Bool) → Of (Operation p r n i role) (if b then cell_of r n else None)
     on true = number_itself r
     on false = tt
 op_of o (MigrateTo r s t) = tt
@@ -33,7 +33,7 @@ op_of o (MigrateFrom r s t) = tt
 start_of : (a : Action) → Of a (start_cell a)
 start_of (Fence n) = tt
 start_of (Probe r n) = tt
-start_of (Cell p r n i role) = op_of op.Start (Cell p r n i role)
+start_of (Operation p r n i role) = op_of op.Start (Operation p r n i role)
 start_of (MigrateTo r s t) = number_itself r
 start_of (MigrateFrom r s t) = tt
 
@@ -44,23 +44,23 @@ role_of role.Promoted a = op_of op.Promote a
 parts_of : (role : Role) (a : Action) → Of a (takes_or_probes role a)
 parts_of role.Started (Fence n) = tt
 parts_of role.Started (Probe r n) = number_itself r
-parts_of role.Started (Cell o r n i other) = op_of op.Stop (Cell o r n i other)
+parts_of role.Started (Operation o r n i other) = op_of op.Stop (Operation o r n i other)
 parts_of role.Started (MigrateTo r s t) = tt
 parts_of role.Started (MigrateFrom r s t) = tt
 parts_of role.Promoted (Fence n) = tt
 parts_of role.Promoted (Probe r n) = number_itself r
-parts_of role.Promoted (Cell op.Start r n i other) = tt
-parts_of role.Promoted (Cell op.Stop r n i other) = number_itself r
-parts_of role.Promoted (Cell op.Promote r n i other) = tt
-parts_of role.Promoted (Cell op.Demote r n i other) = number_itself r
-parts_of role.Promoted (Cell op.Monitor r n i other) = tt
+parts_of role.Promoted (Operation op.Start r n i other) = tt
+parts_of role.Promoted (Operation op.Stop r n i other) = number_itself r
+parts_of role.Promoted (Operation op.Promote r n i other) = tt
+parts_of role.Promoted (Operation op.Demote r n i other) = number_itself r
+parts_of role.Promoted (Operation op.Monitor r n i other) = tt
 parts_of role.Promoted (MigrateTo r s t) = tt
 parts_of role.Promoted (MigrateFrom r s t) = tt
 
 earlier_of : (o : Op) (a : Action) → Of a (as_earlier o a)
 earlier_of op.Start (Fence n) = tt
 earlier_of op.Start (Probe r n) = tt
-earlier_of op.Start (Cell o r n i role) = op_of op.Start (Cell o r n i role)
+earlier_of op.Start (Operation o r n i role) = op_of op.Start (Operation o r n i role)
 earlier_of op.Start (MigrateTo r s t) = tt
 earlier_of op.Start (MigrateFrom r s t) = number_itself r
 earlier_of op.Stop a = op_of op.Stop a
@@ -71,11 +71,11 @@ earlier_of op.Monitor a = op_of op.Monitor a
 take_of : (a : Action) → Of a (take_cell a)
 take_of (Fence n) = tt
 take_of (Probe r n) = tt
-take_of (Cell op.Start r n i role) = tt
-take_of (Cell op.Stop r n i role) = number_itself r
-take_of (Cell op.Promote r n i role) = tt
-take_of (Cell op.Demote r n i role) = number_itself r
-take_of (Cell op.Monitor r n i role) = tt
+take_of (Operation op.Start r n i role) = tt
+take_of (Operation op.Stop r n i role) = number_itself r
+take_of (Operation op.Promote r n i role) = tt
+take_of (Operation op.Demote r n i role) = number_itself r
+take_of (Operation op.Monitor r n i role) = tt
 take_of (MigrateTo r s t) = tt
 take_of (MigrateFrom r s t) = tt
 
@@ -90,15 +90,15 @@ module _ (actions : List Action) where
   later_stop_of : (a : Action) → Of a (as_later actions op.Stop a)
   later_stop_of (Fence n) = tt
   later_stop_of (Probe r n) = tt
-  later_stop_of (Cell op.Start r n i role) = tt
-  later_stop_of (Cell op.Stop r n i role) = on (is_migrating actions r)
+  later_stop_of (Operation op.Start r n i role) = tt
+  later_stop_of (Operation op.Stop r n i role) = on (is_migrating actions r)
     where
-      on : (b : Bool) → Of (Cell op.Stop r n i role) (if b then None else cell_of r n)
+      on : (b : Bool) → Of (Operation op.Stop r n i role) (if b then None else cell_of r n)
       on true = tt
       on false = number_itself r
-  later_stop_of (Cell op.Promote r n i role) = tt
-  later_stop_of (Cell op.Demote r n i role) = tt
-  later_stop_of (Cell op.Monitor r n i role) = tt
+  later_stop_of (Operation op.Promote r n i role) = tt
+  later_stop_of (Operation op.Demote r n i role) = tt
+  later_stop_of (Operation op.Monitor r n i role) = tt
   later_stop_of (MigrateTo r s t) = number_itself r
   later_stop_of (MigrateFrom r s t) = tt
 
@@ -112,11 +112,11 @@ module _ (actions : List Action) where
   later_demote_of : (a : Action) → Of a (later_demote actions a)
   later_demote_of (Fence n) = tt
   later_demote_of (Probe r n) = tt
-  later_demote_of (Cell op.Start r n i role) = tt
-  later_demote_of (Cell op.Stop r n i role) = later_stop_of (Cell op.Stop r n i role)
-  later_demote_of (Cell op.Promote r n i role) = tt
-  later_demote_of (Cell op.Demote r n i role) = number_itself r
-  later_demote_of (Cell op.Monitor r n i role) = tt
+  later_demote_of (Operation op.Start r n i role) = tt
+  later_demote_of (Operation op.Stop r n i role) = later_stop_of (Operation op.Stop r n i role)
+  later_demote_of (Operation op.Promote r n i role) = tt
+  later_demote_of (Operation op.Demote r n i role) = number_itself r
+  later_demote_of (Operation op.Monitor r n i role) = tt
   later_demote_of (MigrateTo r s t) = number_itself r
   later_demote_of (MigrateFrom r s t) = tt
 

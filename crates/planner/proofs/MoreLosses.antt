@@ -10,7 +10,8 @@ use Rattle.cluster_types.specs.declared.journal.Event.{Event}
 use Rattle.cluster_types.specs.declared.journal.Promotion.{Promotion}
 use Rattle.cluster_types.specs.NodeStates.{is_online}
 use Rattle.cluster_types.specs.declared.report.Loss.{Loss}
-use Rattle.planner.specs.Losses.{AreLosses, IsLoss, online_before}
+use Rattle.planner.specs.Losses.{AreLosses, IsLoss}
+use Rattle.planner.specs.Inner.OnlineBefore.{online_before}
 
 module _ (c : Cluster) (es : List Event) (ps : List Promotion) where
   pub no_losses : (losses : List Loss) → losses ≡ [] → AreLosses c es ps (online_before c es 0) losses

@@ -7,7 +7,7 @@ use Rattle.lemmas.proofs.Members.{at_head, head_or_rest, in_none, in_rest, of_fi
 use Rattle.lemmas.proofs.Ordered.{first_earlier, rest_in_order}
 use Rattle.cluster_types.specs.declared.cluster.Cluster.{Cluster}
 use Rattle.cluster_types.specs.declared.journal.Action.{Action}
-use Rattle.cluster_types.specs.declared.journal.Action.TheVariants.{Fence, Probe, Cell, MigrateTo, MigrateFrom}
+use Rattle.cluster_types.specs.declared.journal.Action.TheVariants.{Fence, Probe, Operation, MigrateTo, MigrateFrom}
 use Rattle.cluster_types.specs.declared.leaf.Monitor.{Monitor as MonitorOf}
 use Rattle.cluster_types.specs.declared.leaf.Op.{Op}
 use Rattle.cluster_types.specs.declared.leaf.Op.TheVariants as op
@@ -32,7 +32,7 @@ Differ x y = x ≢ y
 abbrev leaf_of : Action → ℕ
 leaf_of (Fence n) = 0
 leaf_of (Probe r n) = r
-leaf_of (Cell o r n interval role) = r
+leaf_of (Operation o r n interval role) = r
 leaf_of (MigrateTo r n m) = r
 leaf_of (MigrateFrom r n m) = r
 
@@ -40,24 +40,24 @@ leaf_of (MigrateFrom r n m) = r
 abbrev node_of : Action → ℕ
 node_of (Fence n) = n
 node_of (Probe r n) = n
-node_of (Cell o r n interval role) = n
+node_of (Operation o r n interval role) = n
 node_of (MigrateTo r n m) = m
 node_of (MigrateFrom r n m) = m
 
 abbrev word_of : Action → Op
-word_of (Cell o r n interval role) = o
+word_of (Operation o r n interval role) = o
 word_of _ = op.Monitor
 
 abbrev interval_of : Action → ℕ
-interval_of (Cell o r n interval role) = interval
+interval_of (Operation o r n interval role) = interval
 interval_of _ = 0
 
 -- fences, probes, steps, monitors, migrations
 abbrev sort_of : Action → ℕ
 sort_of (Fence n) = 0
 sort_of (Probe r n) = 1
-sort_of (Cell op.Monitor r n interval role) = 3
-sort_of (Cell o r n interval role) = 2
+sort_of (Operation op.Monitor r n interval role) = 3
+sort_of (Operation o r n interval role) = 2
 sort_of (MigrateTo r n m) = 4
 sort_of (MigrateFrom r n m) = 4
 

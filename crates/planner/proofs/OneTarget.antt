@@ -8,7 +8,7 @@ use Rattle.std.proofs.lemmas.Option.{get_or_from_slice_get, slice_get_within}
 use Rattle.lemmas.proofs.Booleans.{later, sooner, unless}
 use Rattle.lemmas.proofs.Counts.{count_none, count_one_more}
 use Rattle.cluster_types.specs.declared.cluster.Cluster.{Cluster}
-use Rattle.cluster_types.specs.declared.journal.Action.TheVariants.{Cell}
+use Rattle.cluster_types.specs.declared.journal.Action.TheVariants.{Operation}
 use Rattle.cluster_types.specs.declared.journal.Event.{Event}
 use Rattle.cluster_types.specs.declared.journal.Promotion.{Promotion}
 use Rattle.cluster_types.specs.declared.leaf.Leaf.{Leaf}
@@ -75,7 +75,7 @@ module _ (c : Cluster) (es : List Event) (ps : List Promotion) (placed : Placed)
       let one = one_copy r (slice_get c.leaves r) refl plain in
       one_of_few (λ i. is_somewhere (targets r i)) (length c.nodes) n m (omega (arith, most, cap, one)) l k h g
 
-  start_target : (r m : ℕ) → NeededBeforeMigration c es targets (Cell op.Start r m 0 role.Started) → is_somewhere (targets r m) ≡ true
+  start_target : (r m : ℕ) → NeededBeforeMigration c es targets (Operation op.Start r m 0 role.Started) → is_somewhere (targets r m) ≡ true
   start_target r m (step _ _ _ h l g) =
       later (is_known (cell_state c r m es)) (is_somewhere (targets r m)) (is_step c es targets r m op.Start g).fitting
 

@@ -5,7 +5,7 @@ use Rattle.lemmas.proofs.Members.{at_head, in_rest}
 use Rattle.loops.proofs.OneRanking.{valid_rise}
 use Rattle.cluster_types.specs.declared.cluster.Cluster.{Cluster}
 use Rattle.cluster_types.specs.declared.journal.Action.{Action}
-use Rattle.cluster_types.specs.declared.journal.Action.TheVariants.{Fence, Probe, Cell, MigrateTo, MigrateFrom}
+use Rattle.cluster_types.specs.declared.journal.Action.TheVariants.{Fence, Probe, Operation, MigrateTo, MigrateFrom}
 use Rattle.cluster_types.specs.declared.journal.Event.{Event}
 use Rattle.cluster_types.specs.declared.journal.Promotion.{Promotion}
 use Rattle.cluster_types.specs.declared.leaf.Op.{Op}
@@ -58,30 +58,30 @@ module _ (c : Cluster) (actions : List Action) where
   leaf_at : (x : Action) → (action_place c actions x).leaf ≡ action_leaf x
   leaf_at (Fence n) = refl
   leaf_at (Probe r n) = refl
-  leaf_at (Cell op.Start r n i role) = refl
-  leaf_at (Cell op.Stop r n i role) = on (is_migrating actions r)
+  leaf_at (Operation op.Start r n i role) = refl
+  leaf_at (Operation op.Stop r n i role) = on (is_migrating actions r)
     where
       on : (b : Bool) → (stop_place c actions r n b).leaf ≡ r
       on true = refl
       on false = refl
-  leaf_at (Cell op.Promote r n i role) = refl
-  leaf_at (Cell op.Demote r n i role) = refl
-  leaf_at (Cell op.Monitor r n i role) = refl
+  leaf_at (Operation op.Promote r n i role) = refl
+  leaf_at (Operation op.Demote r n i role) = refl
+  leaf_at (Operation op.Monitor r n i role) = refl
   leaf_at (MigrateTo r s t) = refl
   leaf_at (MigrateFrom r s t) = refl
 
   node_at : (x : Action) → (action_place c actions x).node ≡ node_of x
   node_at (Fence n) = refl
   node_at (Probe r n) = refl
-  node_at (Cell op.Start r n i role) = refl
-  node_at (Cell op.Stop r n i role) = on (is_migrating actions r)
+  node_at (Operation op.Start r n i role) = refl
+  node_at (Operation op.Stop r n i role) = on (is_migrating actions r)
     where
       on : (b : Bool) → (stop_place c actions r n b).node ≡ n
       on true = refl
       on false = refl
-  node_at (Cell op.Promote r n i role) = refl
-  node_at (Cell op.Demote r n i role) = refl
-  node_at (Cell op.Monitor r n i role) = refl
+  node_at (Operation op.Promote r n i role) = refl
+  node_at (Operation op.Demote r n i role) = refl
+  node_at (Operation op.Monitor r n i role) = refl
   node_at (MigrateTo r s t) = refl
   node_at (MigrateFrom r s t) = refl
 
@@ -102,7 +102,7 @@ module _ (c : Cluster) (es : List Event) (ps : List Promotion) (placed : Placed)
       (link_of_leaf c r (link op.Demote r op.Stop r) low refl e refl (at_head (link op.Demote r op.Stop r) (link op.Start r op.Promote r ∷ []) (link op.Demote r op.Stop r) refl))
 
   step_kind : (r n : ℕ) (o : Op) → r < length c.leaves → n < length c.nodes → GetsStep c es targets r n o
-      → kind_by c (action_place c actions (Cell o r n 0 role.Started)) ≡ kind c (Cell o r n 0 role.Started)
+      → kind_by c (action_place c actions (Operation o r n 0 role.Started)) ≡ kind c (Operation o r n 0 role.Started)
   step_kind r n op.Start low l g =
       ap (λ (b : Bool). if b then 3 else 1)
       (apart_test (is_promotable c r) (rank c (step_of op.Start r)) (rank c (step_of op.Promote r)) (λ e. less_apart _ _ (start_below r low e)))

@@ -4,7 +4,7 @@ use Rattle.std.specs.List.{list_any}
 use Rattle.std.proofs.Math.Bool.{or-false}
 use Rattle.cluster_types.specs.declared.cluster.Cluster.{Cluster}
 use Rattle.cluster_types.specs.declared.journal.Action.{Action}
-use Rattle.cluster_types.specs.declared.journal.Action.TheVariants.{Fence, Probe, Cell, MigrateTo, MigrateFrom}
+use Rattle.cluster_types.specs.declared.journal.Action.TheVariants.{Fence, Probe, Operation, MigrateTo, MigrateFrom}
 use Rattle.cluster_types.specs.declared.leaf.Op.{Op}
 use Rattle.cluster_types.specs.declared.leaf.Op.TheVariants as op
 use Rattle.cluster_types.specs.declared.rules.Colocation.{Colocation}
@@ -74,11 +74,11 @@ module _ (T : CellOf → CellOf → Bool) where
   either_taker : (x : Action) (v : Option CellOf) → (both T (op_cell op.Demote x) v || both T (op_cell op.Stop x) v) ≡ both T (take_cell x) v
   either_taker (Fence n) v = refl
   either_taker (Probe r n) v = refl
-  either_taker (Cell op.Start r n i role) v = refl
-  either_taker (Cell op.Stop r n i role) v = refl
-  either_taker (Cell op.Promote r n i role) v = refl
-  either_taker (Cell op.Demote r n i role) v = or-false (both T (cell_of r n) v)
-  either_taker (Cell op.Monitor r n i role) v = refl
+  either_taker (Operation op.Start r n i role) v = refl
+  either_taker (Operation op.Stop r n i role) v = refl
+  either_taker (Operation op.Promote r n i role) v = refl
+  either_taker (Operation op.Demote r n i role) v = or-false (both T (cell_of r n) v)
+  either_taker (Operation op.Monitor r n i role) v = refl
   either_taker (MigrateTo r s t) v = refl
   either_taker (MigrateFrom r s t) v = refl
 
@@ -106,11 +106,11 @@ module _ (T : CellOf → CellOf → Bool) where
       → (both T u (op_cell op.Demote y) || both T u (as_later actions op.Stop y)) ≡ both T u (later_demote actions y)
   later_either actions u (Fence n) = either_none u None
   later_either actions u (Probe r n) = either_none u None
-  later_either actions u (Cell op.Start r n i role) = either_none u None
-  later_either actions u (Cell op.Stop r n i role) = either_none u (as_later actions op.Stop (Cell op.Stop r n i role))
-  later_either actions u (Cell op.Promote r n i role) = either_none u None
-  later_either actions u (Cell op.Demote r n i role) = or_none u (cell_of r n)
-  later_either actions u (Cell op.Monitor r n i role) = either_none u None
+  later_either actions u (Operation op.Start r n i role) = either_none u None
+  later_either actions u (Operation op.Stop r n i role) = either_none u (as_later actions op.Stop (Operation op.Stop r n i role))
+  later_either actions u (Operation op.Promote r n i role) = either_none u None
+  later_either actions u (Operation op.Demote r n i role) = or_none u (cell_of r n)
+  later_either actions u (Operation op.Monitor r n i role) = either_none u None
   later_either actions u (MigrateTo r s t) = either_none u (cell_of r s)
   later_either actions u (MigrateFrom r s t) = either_none u None
 

@@ -7,7 +7,7 @@ use Rattle.std.proofs.lemmas.List.Kept.{AllPairs-from_increasing}
 use Rattle.std.proofs.lemmas.Option.{slice_get-get_or}
 use Rattle.cluster_types.specs.declared.cluster.Cluster.{Cluster}
 use Rattle.cluster_types.specs.declared.journal.Action.{Action}
-use Rattle.cluster_types.specs.declared.journal.Action.TheVariants.{Fence, Probe, Cell, MigrateTo, MigrateFrom}
+use Rattle.cluster_types.specs.declared.journal.Action.TheVariants.{Fence, Probe, Operation, MigrateTo, MigrateFrom}
 use Rattle.cluster_types.specs.declared.leaf.Op.TheVariants as op
 use Rattle.cluster_types.specs.declared.rules.Order.{Order}
 use Rattle.cluster_types.specs.Precedence.{cell_of, change_cell}
@@ -31,11 +31,11 @@ its_leaf r s n m local h = on (s == r) h
 changes_leaf : (r m : ℕ) (local : Bool) (a : Action) → is_cell_on m (in_leaf r local (change_cell a)) ≡ true → is_of_leaf r a ≡ true
 changes_leaf r m local (Fence n) h = cc
 changes_leaf r m local (Probe s n) h = cc
-changes_leaf r m local (Cell op.Start s n i role) h = its_leaf r s n m local h
-changes_leaf r m local (Cell op.Stop s n i role) h = its_leaf r s n m local h
-changes_leaf r m local (Cell op.Promote s n i role) h = its_leaf r s n m local h
-changes_leaf r m local (Cell op.Demote s n i role) h = its_leaf r s n m local h
-changes_leaf r m local (Cell op.Monitor s n i role) h = cc
+changes_leaf r m local (Operation op.Start s n i role) h = its_leaf r s n m local h
+changes_leaf r m local (Operation op.Stop s n i role) h = its_leaf r s n m local h
+changes_leaf r m local (Operation op.Promote s n i role) h = its_leaf r s n m local h
+changes_leaf r m local (Operation op.Demote s n i role) h = its_leaf r s n m local h
+changes_leaf r m local (Operation op.Monitor s n i role) h = cc
 changes_leaf r m local (MigrateTo s f t) h = cc
 changes_leaf r m local (MigrateFrom s f t) h = cc
 

@@ -5,7 +5,7 @@ use Rattle.std.specs.Option.{option_map_or}
 use Rattle.std.proofs.lemmas.Bool.{and_from, both_ways}
 use Rattle.cluster_types.specs.declared.cluster.Cluster.{Cluster}
 use Rattle.cluster_types.specs.declared.journal.Action.{Action}
-use Rattle.cluster_types.specs.declared.journal.Action.TheVariants.{Fence, Probe, Cell, MigrateTo, MigrateFrom}
+use Rattle.cluster_types.specs.declared.journal.Action.TheVariants.{Fence, Probe, Operation, MigrateTo, MigrateFrom}
 use Rattle.cluster_types.specs.declared.journal.Event.{Event}
 use Rattle.cluster_types.specs.declared.journal.Promotion.{Promotion}
 use Rattle.cluster_types.specs.declared.leaf.Monitor.{Monitor as MonitorOf}
@@ -32,12 +32,12 @@ is_watch k = nat_lt 6 k && nat_lt k 15
 -- the action of this kind, where its leaf migrates from one node to another, if it does
 abbrev action_by : Cluster → ℕ → ℕ → ℕ → ℕ → ℕ → Action
 action_by c source goal r n k =
-    if is_watch k then option_map_or (λ (m : MonitorOf). Cell op.Monitor r n m.interval_ms m.role) (slice_get (monitors c r) (k - 7)) (Fence n)
+    if is_watch k then option_map_or (λ (m : MonitorOf). Operation op.Monitor r n m.interval_ms m.role) (slice_get (monitors c r) (k - 7)) (Fence n)
     else (if k == 0 then Probe r n
-    else (if k == 1 then Cell op.Start r n 0 role.Started
-    else (if k == 2 then Cell op.Stop r n 0 role.Started
-    else (if k == 3 then Cell op.Promote r n 0 role.Started
-    else (if k == 4 then Cell op.Demote r n 0 role.Started
+    else (if k == 1 then Operation op.Start r n 0 role.Started
+    else (if k == 2 then Operation op.Stop r n 0 role.Started
+    else (if k == 3 then Operation op.Promote r n 0 role.Started
+    else (if k == 4 then Operation op.Demote r n 0 role.Started
     else (if k == 5 then MigrateTo r n goal
     else (if k == 6 then MigrateFrom r source n
     else Fence n)))))))
@@ -47,13 +47,13 @@ module _ (c : Cluster) (es : List Event) (targets : Targets) (valid : IsValid c)
   back x = action_by c source goal (action_leaf x) (node_of x) (kind c x)
 
   watched : (r n k i : ℕ) (m : MonitorOf) → k ≡ 7 + i → i < 8 → slice_get (monitors c r) i ≡ Some m
-      → action_by c source goal r n k ≡ Cell op.Monitor r n m.interval_ms m.role
+      → action_by c source goal r n k ≡ Operation op.Monitor r n m.interval_ms m.role
   watched r n k i m e l at =
       let w : is_watch k ≡ true = and_from (nat_lt 6 k) (nat_lt k 15) (grind arith) (grind arith) in
       let d : k - 7 ≡ i = omega arith in
       rw w (rw d (rw at refl))
 
-  of_monitor : (r n : ℕ) (m : MonitorOf) → Contains (monitors c r) m → back (Cell op.Monitor r n m.interval_ms m.role) ≡ Cell op.Monitor r n m.interval_ms m.role
+  of_monitor : (r n : ℕ) (m : MonitorOf) → Contains (monitors c r) m → back (Operation op.Monitor r n m.interval_ms m.role) ≡ Operation op.Monitor r n m.interval_ms m.role
   of_monitor r n m k =
       let ms = few_apart c valid r in
       let p = stands_at (monitors c r) m ms.apart k in
@@ -61,7 +61,7 @@ module _ (c : Cluster) (es : List Event) (targets : Targets) (valid : IsValid c)
       let low = p.within in
       watched r n (7 + index_by (monitors c r) m.interval_ms) (index_by (monitors c r) m.interval_ms) m refl (omega arith) p.at
 
-  of_step : (r n : ℕ) (o : Op) → GetsStep c es targets r n o → back (Cell o r n 0 role.Started) ≡ Cell o r n 0 role.Started
+  of_step : (r n : ℕ) (o : Op) → GetsStep c es targets r n o → back (Operation o r n 0 role.Started) ≡ Operation o r n 0 role.Started
   of_step r n op.Start g = refl
   of_step r n op.Stop g = refl
   of_step r n op.Promote g = refl

@@ -3,7 +3,7 @@ use Rattle.std.proofs.Common.{◌<◌, List, length, All, Contains, IfSome}
 use Rattle.lemmas.proofs.Searches.{all_where}
 use Rattle.cluster_types.specs.declared.cluster.Cluster.{Cluster}
 use Rattle.cluster_types.specs.declared.journal.Action.{Action}
-use Rattle.cluster_types.specs.declared.journal.Action.TheVariants.{Fence, Probe, Cell, MigrateTo, MigrateFrom}
+use Rattle.cluster_types.specs.declared.journal.Action.TheVariants.{Fence, Probe, Operation, MigrateTo, MigrateFrom}
 use Rattle.cluster_types.specs.declared.rules.Colocation.{Colocation}
 use Rattle.cluster_types.specs.declared.rules.Order.{Order}
 use Rattle.cluster_types.specs.Valid.{IsValid}
@@ -27,14 +27,14 @@ thens c v = all_where _ c.orders (λ o h. word_leaf c o.then_leaf o.then_op (v.o
 its_leaf : (c : Cluster) (a : Action) → IsActionWithin c a → IfSome (leaf_if a) (λ r. r < length c.leaves)
 its_leaf c (Fence n) h = tt
 its_leaf c (Probe r n) h = h.0
-its_leaf c (Cell o r n i role) h = h.0
+its_leaf c (Operation o r n i role) h = h.0
 its_leaf c (MigrateTo r s t) h = h.0
 its_leaf c (MigrateFrom r s t) h = h.0
 
 its_sent : (c : Cluster) (a : Action) → IsActionWithin c a → IfSome (send_if a) (λ r. r < length c.leaves)
 its_sent c (Fence n) h = tt
 its_sent c (Probe r n) h = tt
-its_sent c (Cell o r n i role) h = tt
+its_sent c (Operation o r n i role) h = tt
 its_sent c (MigrateTo r s t) h = h.0
 its_sent c (MigrateFrom r s t) h = tt
 

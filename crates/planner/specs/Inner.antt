@@ -7,6 +7,7 @@ pub mod Index
 pub mod Knowing
 pub mod Leaves
 pub mod Levels
+pub mod OnlineBefore
 pub mod Places
 pub mod Serials
 pub mod Works

@@ -56,7 +56,7 @@ take_in_cell _ = None
 
 -- a demote or a stop
 abbrev pub take_cell : Action → Option CellOf
-take_cell (action.Cell op.Demote r n interval role) = cell_of r n
+take_cell (action.Operation op.Demote r n interval role) = cell_of r n
 take_cell a = op_cell op.Stop a
 
 -- what takes what the word gives, as the earlier and as the later of a pair
@@ -66,7 +66,7 @@ earlier_taker op.Promote a = take_cell a
 earlier_taker _ a = None
 
 abbrev pub later_demote : List Action → Action → Option CellOf
-later_demote actions (action.Cell op.Demote r n interval role) = cell_of r n
+later_demote actions (action.Operation op.Demote r n interval role) = cell_of r n
 later_demote actions a = as_later actions op.Stop a
 
 abbrev pub later_taker : List Action → Op → Action → Option CellOf

@@ -25,10 +25,10 @@ module _ (c : Cluster) (es : List Event) (promotions : List Promotion) where
     pub nodes_lost : map (λ (loss : Loss). loss.node) losses ≡ nodes
     pub each : (loss : Loss) → Contains losses loss → IsLoss loss
 
--- the nodes before this one that are online, in their order
-abbrev pub online_before : Cluster → List Event → ℕ → List ℕ
-online_before c es upto = filter (λ n. is_online c n es) (range_with_len 0 upto)
+-- the nodes that are online, in their order
+abbrev pub online_nodes : Cluster → List Event → List ℕ
+online_nodes c es = filter (λ n. is_online c n es) (range_with_len 0 (length c.nodes))
 
 -- what the loss of each online node does, in the order of the nodes
 abbrev pub AreAllLosses : Cluster → List Event → List Promotion → Report → Type 0
-AreAllLosses c es promotions report = AreLosses c es promotions (online_before c es (length c.nodes)) report.losses
+AreAllLosses c es promotions report = AreLosses c es promotions (online_nodes c es) report.losses

@@ -5,7 +5,7 @@ use Rattle.cluster_types.specs.declared.cluster.Cluster.{Cluster}
 use Rattle.cluster_types.specs.declared.journal.Action.{Action}
 use Rattle.cluster_types.specs.Precedence.{CellOf}
 use Rattle.edges.specs.declared.edge.Edge.{Edge}
-use Rattle.cluster_types.specs.declared.journal.Action.TheVariants.{Fence, Probe, Cell, MigrateTo, MigrateFrom}
+use Rattle.cluster_types.specs.declared.journal.Action.TheVariants.{Fence, Probe, Operation, MigrateTo, MigrateFrom}
 use Rattle.planner.specs.declared.precedence.sides.Join.{Join}
 use Rattle.planner.specs.declared.precedence.sides.Side.{Side}
 use Rattle.planner.specs.declared.precedence.sides.Side.TheVariants as side
@@ -20,14 +20,14 @@ pub record GatesHaveRoom (c : Cluster) (actions : List Action) (j : Join) (base 
 abbrev pub IsActionWithin : Cluster → Action → Type 0
 IsActionWithin c (Fence n) = n < length c.nodes
 IsActionWithin c (Probe r n) = (r < length c.leaves) × (n < length c.nodes)
-IsActionWithin c (Cell o r n interval role) = (r < length c.leaves) × (n < length c.nodes)
+IsActionWithin c (Operation o r n interval role) = (r < length c.leaves) × (n < length c.nodes)
 IsActionWithin c (MigrateTo r source target) = (r < length c.leaves) × (source < length c.nodes) × (target < length c.nodes)
 IsActionWithin c (MigrateFrom r source target) = (r < length c.leaves) × (source < length c.nodes) × (target < length c.nodes)
 
 within_prop : (c : Cluster) (a : Action) → IsProp (IsActionWithin c a)
 within_prop c (Fence n) x y = le_prop x y
 within_prop c (Probe r n) x y = λ i. (le_prop x.0 y.0 i, le_prop x.1 y.1 i)
-within_prop c (Cell o r n interval role) x y = λ i. (le_prop x.0 y.0 i, le_prop x.1 y.1 i)
+within_prop c (Operation o r n interval role) x y = λ i. (le_prop x.0 y.0 i, le_prop x.1 y.1 i)
 within_prop c (MigrateTo r source target) x y = λ i. (le_prop x.0 y.0 i, le_prop x.1 y.1 i, le_prop x.2 y.2 i)
 within_prop c (MigrateFrom r source target) x y = λ i. (le_prop x.0 y.0 i, le_prop x.1 y.1 i, le_prop x.2 y.2 i)
 

@@ -60,7 +60,7 @@ const BEGINS: &[(&str, Action)] = &[
     ("begin 3 probe db n1", Action::Probe { leaf: 1, node: 0 }),
     (
         "begin 3 demote vip n2",
-        Action::Cell {
+        Action::Operation {
             op: Op::Demote,
             leaf: 0,
             node: 1,
@@ -86,7 +86,7 @@ const BEGINS: &[(&str, Action)] = &[
     ),
     (
         "begin 3 monitor db n1 11000",
-        Action::Cell {
+        Action::Operation {
             op: Op::Monitor,
             leaf: 1,
             node: 0,

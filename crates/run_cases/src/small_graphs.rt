@@ -16,7 +16,7 @@ pub(crate) const PROBE_1: Action = Action::Probe { leaf: 0, node: 0 };
 
 pub(crate) const PROBE_2: Action = Action::Probe { leaf: 0, node: 1 };
 
-pub(crate) const START_1: Action = Action::Cell {
+pub(crate) const START_1: Action = Action::Operation {
     op: Op::Start,
     leaf: 0,
     node: 0,

@@ -19,7 +19,7 @@ const ONE_AT_A_TIME: &str =
     "node n1\nnode n2\nprimitive vip IPaddr2\nproperty batch-limit=1\n%status\nnow 1000\nquorum yes\n\
     node n1 online\nnode n2 online\n";
 
-const STOP_1: Action = Action::Cell {
+const STOP_1: Action = Action::Operation {
     op: Op::Stop,
     leaf: 0,
     node: 0,
@@ -27,7 +27,7 @@ const STOP_1: Action = Action::Cell {
     role: Role::Started,
 };
 
-const START_2: Action = Action::Cell {
+const START_2: Action = Action::Operation {
     op: Op::Start,
     leaf: 0,
     node: 1,

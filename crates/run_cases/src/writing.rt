@@ -60,7 +60,7 @@ const BEGINS: &[(u32, Action)] = &[
     (3, START_1),
     (
         4,
-        Action::Cell {
+        Action::Operation {
             op: Op::Stop,
             leaf: 0,
             node: 1,
@@ -70,7 +70,7 @@ const BEGINS: &[(u32, Action)] = &[
     ),
     (
         5,
-        Action::Cell {
+        Action::Operation {
             op: Op::Promote,
             leaf: 0,
             node: 0,
@@ -80,7 +80,7 @@ const BEGINS: &[(u32, Action)] = &[
     ),
     (
         6,
-        Action::Cell {
+        Action::Operation {
             op: Op::Demote,
             leaf: 0,
             node: 1,
@@ -90,7 +90,7 @@ const BEGINS: &[(u32, Action)] = &[
     ),
     (
         7,
-        Action::Cell {
+        Action::Operation {
             op: Op::Monitor,
             leaf: 0,
             node: 0,

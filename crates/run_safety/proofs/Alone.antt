@@ -3,7 +3,7 @@ use Rattle.std.proofs.Common.{◌≡◌, ◌<◌, ◌==◌, ℕ, Bool, true, fal
 use Rattle.std.specs.Prelude.{Option}
 use Rattle.lemmas.proofs.Booleans.{number_itself}
 use Rattle.cluster_types.specs.declared.journal.Action.{Action}
-use Rattle.cluster_types.specs.declared.journal.Action.TheVariants.{Fence, Probe, Cell, MigrateTo, MigrateFrom}
+use Rattle.cluster_types.specs.declared.journal.Action.TheVariants.{Fence, Probe, Operation, MigrateTo, MigrateFrom}
 use Rattle.cluster_types.specs.declared.journal.Answer.{Answer}
 use Rattle.cluster_types.specs.declared.journal.Event.{Event}
 use Rattle.cluster_types.specs.May.{may_be_running}
@@ -40,7 +40,7 @@ module _ (t : Transition) (targets : Targets) (carries : Carries t targets) (sou
       on_no_third t targets carries sound valid r n to (migrates_by_taken t.cluster t.planned_at targets r n to (carries.needed k (MigrateFrom r n to) begins.action)) since calm m low not_source not_target
   migrates_alone since k (Fence n) calm begins = tt
   migrates_alone since k (Probe r n) calm begins = tt
-  migrates_alone since k (Cell o r n i h) calm begins = tt
+  migrates_alone since k (Operation o r n i h) calm begins = tt
 
   pub migrations_alone : (whole : Bool) (rest left : Option (List Answer)) (later : List Event) → Goes t whole [] rest later left → MigrationsAlone t later
   migrations_alone = each_begin t (λ before k a. MigratesAlone t before a) migrates_alone

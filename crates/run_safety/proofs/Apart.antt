@@ -5,7 +5,7 @@ use Rattle.std.proofs.lemmas.Bool.{both_ways, or_left, or_right, true_from_ne_fa
 use Rattle.lemmas.proofs.Searches.{passes_by}
 use Rattle.lemmas.proofs.Booleans.{number_itself}
 use Rattle.cluster_types.specs.declared.journal.Action.{Action}
-use Rattle.cluster_types.specs.declared.journal.Action.TheVariants.{Fence, Probe, Cell, MigrateTo, MigrateFrom}
+use Rattle.cluster_types.specs.declared.journal.Action.TheVariants.{Fence, Probe, Operation, MigrateTo, MigrateFrom}
 use Rattle.cluster_types.specs.declared.journal.Answer.{Answer}
 use Rattle.cluster_types.specs.declared.journal.Event.{Event}
 use Rattle.cluster_types.specs.declared.leaf.Op.TheVariants as op
@@ -37,16 +37,16 @@ use Rattle.run_safety.proofs.Truths.{own_cell}
 
 -- what gives a role gives something
 role_gives : (held : Role) (a : Action) (at : CellOf) → gives_role held a ≡ Some at → gives_any a ≡ Some at
-role_gives role.Started (Cell op.Start r n i h) at e = e
+role_gives role.Started (Operation op.Start r n i h) at e = e
 role_gives role.Started (MigrateTo r n m) at e = e
-role_gives role.Started (Cell op.Promote r n i h) at e = cc
-role_gives role.Started (Cell op.Stop r n i h) at e = e
-role_gives role.Started (Cell op.Demote r n i h) at e = e
-role_gives role.Started (Cell op.Monitor r n i h) at e = e
+role_gives role.Started (Operation op.Promote r n i h) at e = cc
+role_gives role.Started (Operation op.Stop r n i h) at e = e
+role_gives role.Started (Operation op.Demote r n i h) at e = e
+role_gives role.Started (Operation op.Monitor r n i h) at e = e
 role_gives role.Started (Fence n) at e = e
 role_gives role.Started (Probe r n) at e = e
 role_gives role.Started (MigrateFrom r n m) at e = e
-role_gives role.Promoted (Cell op.Promote r n i h) at e = e
+role_gives role.Promoted (Operation op.Promote r n i h) at e = e
 role_gives role.Promoted _ at e = cc
 
 module _ (t : Transition) (targets : Targets) (carries : Carries t targets) (sound : IsSound t targets) (orderly : Orderly t.planned_at)
@@ -58,10 +58,10 @@ module _ (t : Transition) (targets : Targets) (carries : Carries t targets) (sou
       where
         by : (a : Action) → gives_role role.Promoted a ≡ Some at → Needed t.cluster t.planned_at targets a
             → is_promoted_target (targets at.leaf at.node) ≡ true
-        by (Cell op.Promote s m i h) e needs =
+        by (Operation op.Promote s m i h) e needs =
             let same : (record { leaf = s; node = m }) ≡ at = cc in
             subst (λ (z : CellOf). is_promoted_target (targets z.leaf z.node) ≡ true) same
-            (promoted_gives t.cluster t.planned_at targets s m (Cell op.Promote s m i h) needs (own_cell s m))
+            (promoted_gives t.cluster t.planned_at targets s m (Operation op.Promote s m i h) needs (own_cell s m))
         by _ e needs = cc
 
     module _ (held other : Role) (r s : ℕ) (at : CellOf) (gives : gives_role held a ≡ Some at) (same : at.leaf ≡ r) where
@@ -102,16 +102,16 @@ module _ (t : Transition) (targets : Targets) (carries : Carries t targets) (sou
         meets_none h none =
             holds_not t targets carries sound orderly since calm s at.node h on.node online
             (done (Probe s at.node) (comes_first (Probe s at.node) (probes other)))
-            (done (Cell op.Stop s at.node 0 role.Started) (comes_first (Cell op.Stop s at.node 0 role.Started) (stops other)))
+            (done (Operation op.Stop s at.node 0 role.Started) (comes_first (Operation op.Stop s at.node 0 role.Started) (stops other)))
             (done (Fence at.node) (by_fence t (Fence at.node) a (rw any refl))) other none
-            (λ e. done (Cell op.Demote s at.node 0 role.Started) (comes_first (Cell op.Demote s at.node 0 role.Started)
-            (subst (λ z. takes_or_probes z (Cell op.Demote s at.node 0 role.Started) ≡ cell_of s at.node) (sym e) refl)))
+            (λ e. done (Operation op.Demote s at.node 0 role.Started) (comes_first (Operation op.Demote s at.node 0 role.Started)
+            (subst (λ z. takes_or_probes z (Operation op.Demote s at.node 0 role.Started) ≡ cell_of s at.node) (sym e) refl)))
           where
             probes : (other : Role) → takes_or_probes other (Probe s at.node) ≡ cell_of s at.node
             probes role.Started = refl
             probes role.Promoted = refl
 
-            stops : (other : Role) → takes_or_probes other (Cell op.Stop s at.node 0 role.Started) ≡ cell_of s at.node
+            stops : (other : Role) → takes_or_probes other (Operation op.Stop s at.node 0 role.Started) ≡ cell_of s at.node
             stops role.Started = refl
             stops role.Promoted = refl
 

@@ -6,7 +6,7 @@ use Rattle.std.proofs.lemmas.Bool.Decides.{nat_tests}
 use Rattle.lemmas.proofs.Booleans.{number_itself}
 use Rattle.cluster_types.specs.declared.cluster.Cluster.{Cluster}
 use Rattle.cluster_types.specs.declared.journal.Action.{Action}
-use Rattle.cluster_types.specs.declared.journal.Action.TheVariants.{Fence, Probe, Cell, MigrateTo, MigrateFrom}
+use Rattle.cluster_types.specs.declared.journal.Action.TheVariants.{Fence, Probe, Operation, MigrateTo, MigrateFrom}
 use Rattle.cluster_types.specs.declared.journal.Answer.{Answer}
 use Rattle.cluster_types.specs.declared.journal.Event.{Event}
 use Rattle.cluster_types.specs.declared.leaf.Op.TheVariants as op
@@ -45,7 +45,7 @@ module _ (t : Transition) (targets : Targets) (carries : Carries t targets) (sou
   -- what comes before a start or a promote on another node
   pub record Precedes (r : ℕ) (a : Action) (m : ℕ) : Type 0 where
     pub probed : Must t (Probe r m) a
-    pub stopped : Must t (Cell op.Stop r m 0 role.Started) a
+    pub stopped : Must t (Operation op.Stop r m 0 role.Started) a
     pub fenced : Must t (Fence m) a
 
   module _ (since : List Event) (k : ℕ) (a : Action) (calm : Calm t since) (begins : Begins t since k a) (at : CellOf) (gives : gives_any a ≡ Some at) where
@@ -61,7 +61,7 @@ module _ (t : Transition) (targets : Targets) (carries : Carries t targets) (sou
         both_ways (may_be_running t.cluster at.leaf m (journal t since))
         (elsewhere_off t targets carries at.leaf m nowhere since calm is_given.leaf low is_given.free orderly (inr is_able)
         (succeeded t targets carries since k (Probe at.leaf m) a begins first.probed)
-        (succeeded t targets carries since k (Cell op.Stop at.leaf m 0 role.Started) a begins first.stopped)
+        (succeeded t targets carries since k (Operation op.Stop at.leaf m 0 role.Started) a begins first.stopped)
         (succeeded t targets carries since k (Fence m) a begins first.fenced)) on)
 
     adds_none : (nat_lt (copies t.cluster at.leaf) (length t.cluster.nodes) ≡ true → (m : ℕ) → Precedes at.leaf a m) → AddsNoCopy t since at
@@ -81,30 +81,30 @@ module _ (t : Transition) (targets : Targets) (carries : Carries t targets) (sou
             omega (arith, counted, all, enough)
 
 module _ (t : Transition) (targets : Targets) (carries : Carries t targets) (sound : IsSound t targets) (orderly : Orderly t.planned_at) where
-  before_start : (r n i : ℕ) (held : Role) → nat_lt (copies t.cluster r) (length t.cluster.nodes) ≡ true → (m : ℕ) → Precedes t targets carries sound orderly r (Cell op.Start r n i held) m
+  before_start : (r n i : ℕ) (held : Role) → nat_lt (copies t.cluster r) (length t.cluster.nodes) ≡ true → (m : ℕ) → Precedes t targets carries sound orderly r (Operation op.Start r n i held) m
   before_start r n i held few m = record {
-    probed = by_probe t (Probe r m) (Cell op.Start r n i held) (number_itself r);
-    stopped = by_stop t (Cell op.Stop r m 0 role.Started) (Cell op.Start r n i held) (rw (number_itself r) (rw few (or_right (m == n) true refl)));
-    fenced = by_fence t (Fence m) (Cell op.Start r n i held) refl;
+    probed = by_probe t (Probe r m) (Operation op.Start r n i held) (number_itself r);
+    stopped = by_stop t (Operation op.Stop r m 0 role.Started) (Operation op.Start r n i held) (rw (number_itself r) (rw few (or_right (m == n) true refl)));
+    fenced = by_fence t (Fence m) (Operation op.Start r n i held) refl;
   }
 
-  pub before_promote : (r n i : ℕ) (held : Role) (m : ℕ) → Precedes t targets carries sound orderly r (Cell op.Promote r n i held) m
+  pub before_promote : (r n i : ℕ) (held : Role) (m : ℕ) → Precedes t targets carries sound orderly r (Operation op.Promote r n i held) m
   before_promote r n i held m = record {
-    probed = by_probe t (Probe r m) (Cell op.Promote r n i held) (number_itself r);
-    stopped = by_demote t (Cell op.Stop r m 0 role.Started) (Cell op.Promote r n i held) (number_itself r);
-    fenced = by_fence t (Fence m) (Cell op.Promote r n i held) refl;
+    probed = by_probe t (Probe r m) (Operation op.Promote r n i held) (number_itself r);
+    stopped = by_demote t (Operation op.Stop r m 0 role.Started) (Operation op.Promote r n i held) (number_itself r);
+    fenced = by_fence t (Fence m) (Operation op.Promote r n i held) refl;
   }
 
   -- at each begin
   no_copy : (since : List Event) (k : ℕ) (a : Action) → Calm t since → Begins t since k a
       → IfSome (op_cell op.Start a) (AddsNoCopy t since) × IfSome (op_cell op.Promote a) (AddsNoCopy t since)
-  no_copy since k (Cell op.Start r n i held) calm begins =
-      (adds_none t targets carries sound orderly since k (Cell op.Start r n i held) calm begins (record { leaf = r; node = n }) refl (before_start r n i held), tt)
-  no_copy since k (Cell op.Promote r n i held) calm begins =
-      (tt, adds_none t targets carries sound orderly since k (Cell op.Promote r n i held) calm begins (record { leaf = r; node = n }) refl (λ few m. before_promote r n i held m))
-  no_copy since k (Cell op.Stop r n i held) calm begins = (tt, tt)
-  no_copy since k (Cell op.Demote r n i held) calm begins = (tt, tt)
-  no_copy since k (Cell op.Monitor r n i held) calm begins = (tt, tt)
+  no_copy since k (Operation op.Start r n i held) calm begins =
+      (adds_none t targets carries sound orderly since k (Operation op.Start r n i held) calm begins (record { leaf = r; node = n }) refl (before_start r n i held), tt)
+  no_copy since k (Operation op.Promote r n i held) calm begins =
+      (tt, adds_none t targets carries sound orderly since k (Operation op.Promote r n i held) calm begins (record { leaf = r; node = n }) refl (λ few m. before_promote r n i held m))
+  no_copy since k (Operation op.Stop r n i held) calm begins = (tt, tt)
+  no_copy since k (Operation op.Demote r n i held) calm begins = (tt, tt)
+  no_copy since k (Operation op.Monitor r n i held) calm begins = (tt, tt)
   no_copy since k (Fence n) calm begins = (tt, tt)
   no_copy since k (Probe r n) calm begins = (tt, tt)
   no_copy since k (MigrateTo r n m) calm begins = (tt, tt)

@@ -5,7 +5,7 @@ use Rattle.std.specs.List.{list_any}
 use Rattle.std.proofs.lemmas.Bool.{or_parts}
 use Rattle.lemmas.proofs.Booleans.{either}
 use Rattle.cluster_types.specs.declared.journal.Action.{Action}
-use Rattle.cluster_types.specs.declared.journal.Action.TheVariants.{Cell}
+use Rattle.cluster_types.specs.declared.journal.Action.TheVariants.{Operation}
 use Rattle.cluster_types.specs.declared.leaf.Op.{Op}
 use Rattle.cluster_types.specs.declared.leaf.Op.TheVariants as op
 use Rattle.cluster_types.specs.declared.leaf.Role.TheVariants as role
@@ -42,7 +42,7 @@ find_none p (b ∷ bs) h zero a e = let same : b ≡ a = cc in subst (λ z. p z 
 find_none p (b ∷ bs) h (suc i) a e = find_none p bs (or_parts (p b) _ h).1 i a e
 
 abbrev pub is_stop_of : ℕ → ℕ → Action → Bool
-is_stop_of r n (Cell op.Stop leaf node interval held) = is_same_cell r n leaf node
+is_stop_of r n (Operation op.Stop leaf node interval held) = is_same_cell r n leaf node
 is_stop_of r n _ = false
 
 -- what runs and is cycled is stopped
@@ -67,7 +67,7 @@ module _ (t : Transition) (targets : Targets) (carries : Carries t targets) (r n
   abbrev pub Gets : Op → Type 0
   Gets o = GetsStep t.cluster t.planned_at targets r n o
 
-  step_gets : (s m : ℕ) (o : Op) → GetsStep t.cluster t.planned_at targets s m o → is_stop_of r n (Cell o s m 0 role.Started) ≡ true → Gets op.Stop
+  step_gets : (s m : ℕ) (o : Op) → GetsStep t.cluster t.planned_at targets s m o → is_stop_of r n (Operation o s m 0 role.Started) ≡ true → Gets op.Stop
   step_gets s m op.Stop g h =
       let same = one_cell r n s m h in
       subst (λ z. GetsStep t.cluster t.planned_at targets z n op.Stop) same.0 (subst (λ z. GetsStep t.cluster t.planned_at targets s z op.Stop) same.1 g)
@@ -104,8 +104,8 @@ module _ (t : Transition) (targets : Targets) (carries : Carries t targets) (r n
           inr (λ g.
           let needed = step_needed t targets r n op.Stop (λ e. let f : ⊥ = cc in f) h l
           (inl (g, stop_of_cycled (is_pinned t.cluster t.planned_at r) (state t r n) (targets r n) free running)) in
-          let number = carries.numbered (Cell op.Stop r n 0 role.Started) needed in
-          let absent = find_none (is_stop_of r n) t.actions e (number.number - 1) (Cell op.Stop r n 0 role.Started) (place_of t.actions number.number _ number.is) in
+          let number = carries.numbered (Operation op.Stop r n 0 role.Started) needed in
+          let absent = find_none (is_stop_of r n) t.actions e (number.number - 1) (Operation op.Stop r n 0 role.Started) (place_of t.actions number.number _ number.is) in
           refuse _ absent (own_cell r n))
 
   -- a step that is needed either way is needed

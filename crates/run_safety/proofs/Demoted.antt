@@ -4,7 +4,7 @@ use Rattle.std.specs.Prelude.{Contains}
 use Rattle.std.proofs.lemmas.Bool.{both_ways, false_from_ne_true, and_from}
 use Rattle.lemmas.proofs.Booleans.{sooner, number_itself}
 use Rattle.cluster_types.specs.declared.journal.Action.{Action}
-use Rattle.cluster_types.specs.declared.journal.Action.TheVariants.{Fence, Probe, Cell}
+use Rattle.cluster_types.specs.declared.journal.Action.TheVariants.{Fence, Probe, Operation}
 use Rattle.cluster_types.specs.declared.journal.Event.{Event}
 use Rattle.cluster_types.specs.declared.leaf.Op.TheVariants as op
 use Rattle.cluster_types.specs.declared.leaf.Role.TheVariants as role
@@ -88,8 +88,8 @@ module _ (t : Transition) (targets : Targets) (carries : Carries t targets) (r n
   module _ (since : List Event) (calm : Calm t since) (h : r < length t.cluster.leaves) (l : n < length t.cluster.nodes)
       (free : is_pinned t.cluster t.planned_at r ≡ false) (orderly : Orderly t.planned_at) (acts : Acts t n)
       (promotable : is_promotable t.cluster r ≡ true)
-      (probed : Done t since (Probe r n)) (stopped : Done t since (Cell op.Stop r n 0 role.Started))
-      (demoted : Done t since (Cell op.Demote r n 0 role.Started)) (fenced : Done t since (Fence n)) where
+      (probed : Done t since (Probe r n)) (stopped : Done t since (Operation op.Stop r n 0 role.Started))
+      (demoted : Done t since (Operation op.Demote r n 0 role.Started)) (fenced : Done t since (Fence n)) where
     taken_by : (x : Action) → IsNeeded t targets x → Done t since x → takes_promoted r n x ≡ true → is_sure x ≡ true → IsDown (journal t since)
     taken_by x needed done takes sure =
         let number = carries.numbered x needed in
@@ -102,11 +102,11 @@ module _ (t : Transition) (targets : Targets) (carries : Carries t targets) (r n
         by cell.Unprobed e = taken_by (Probe r n) (probe_needed t targets r n h l (rw e refl)) probed (own_cell r n) refl
         by cell.Blocked e = refuse (is_pinned t.cluster t.planned_at r) free (blocked_pins t.cluster r n t.planned_at l (rw e refl))
         by cell.Failed e =
-            taken_by (Cell op.Stop r n 0 role.Started)
+            taken_by (Operation op.Stop r n 0 role.Started)
             (step_needed t targets r n op.Stop (λ e. let f : ⊥ = cc in f) h l
             (inr (uncycled_idle t targets r n (rw e refl), stop_of_failed (is_pinned t.cluster t.planned_at r) (state t r n) (targets r n) free e))) stopped (own_cell r n) refl
         by cell.Promoted e =
-            taken_by (Cell op.Demote r n 0 role.Started)
+            taken_by (Operation op.Demote r n 0 role.Started)
             (step_needed t targets r n op.Demote (λ e. let f : ⊥ = cc in f) h l
             (either_way t targets carries r n h l free (rw e refl) op.Demote
             (demote_of (is_pinned t.cluster t.planned_at r) (state t r n) (targets r n) free e untargeted))) demoted (own_cell r n) refl

@@ -4,7 +4,7 @@ use Rattle.std.proofs.lemmas.Bool.{and_from, and_left, and_right, or_left}
 use Rattle.lemmas.proofs.Booleans.{first_passes}
 use Rattle.cluster_types.specs.declared.cluster.Cluster.{Cluster}
 use Rattle.cluster_types.specs.declared.journal.Action.{Action}
-use Rattle.cluster_types.specs.declared.journal.Action.TheVariants.{Fence, Probe, Cell, MigrateTo, MigrateFrom}
+use Rattle.cluster_types.specs.declared.journal.Action.TheVariants.{Fence, Probe, Operation, MigrateTo, MigrateFrom}
 use Rattle.cluster_types.specs.declared.journal.Event.{Event}
 use Rattle.cluster_types.specs.declared.journal.Event.TheVariants.{Wait, Begin, Ended}
 use Rattle.cluster_types.specs.declared.journal.Outcome.{Outcome}
@@ -65,47 +65,47 @@ module _ (c : Cluster) (r n : ℕ) where
   begins_open : (k : ℕ) (y : Action) → gives_run r n y ≡ false → opens c r n (Begin k y) ≡ false
   begins_open k (Fence node) h = refl
   begins_open k (Probe leaf node) h = refl
-  begins_open k (Cell Start leaf node interval held) h = and_left _ true h
-  begins_open k (Cell Stop leaf node interval held) h = refl
-  begins_open k (Cell Promote leaf node interval held) h = and_left _ true h
-  begins_open k (Cell Demote leaf node interval held) h = and_left _ true h
-  begins_open k (Cell Monitor leaf node interval held) h = refl
+  begins_open k (Operation Start leaf node interval held) h = and_left _ true h
+  begins_open k (Operation Stop leaf node interval held) h = refl
+  begins_open k (Operation Promote leaf node interval held) h = and_left _ true h
+  begins_open k (Operation Demote leaf node interval held) h = and_left _ true h
+  begins_open k (Operation Monitor leaf node interval held) h = refl
   begins_open k (MigrateTo leaf source target) h = and_left _ true h
   begins_open k (MigrateFrom leaf source target) h = and_left _ true h
 
   ends_open : (k m : ℕ) (y : Action) (o : Outcome) → is_success c y o ≡ true → gives_run r n y ≡ false → opens c r n (Ended k y o m) ≡ false
   ends_open k m (Fence node) o ok h = refl
   ends_open k m (Probe leaf node) o ok h = excluded _ (is_code_among (7 ∷ 5 ∷ []) o) (probed_off o (first_passes _ false ok refl))
-  ends_open k m (Cell Start leaf node interval held) o ok h = and_left _ true h
-  ends_open k m (Cell Stop leaf node interval held) o ok h = refl
-  ends_open k m (Cell Promote leaf node interval held) o ok h = and_left _ true h
-  ends_open k m (Cell Demote leaf node interval held) o ok h = and_left _ true h
-  ends_open k m (Cell Monitor leaf node interval held) o ok h = and_left _ _ (and_left _ _ h)
+  ends_open k m (Operation Start leaf node interval held) o ok h = and_left _ true h
+  ends_open k m (Operation Stop leaf node interval held) o ok h = refl
+  ends_open k m (Operation Promote leaf node interval held) o ok h = and_left _ true h
+  ends_open k m (Operation Demote leaf node interval held) o ok h = and_left _ true h
+  ends_open k m (Operation Monitor leaf node interval held) o ok h = and_left _ _ (and_left _ _ h)
   ends_open k m (MigrateTo leaf source target) o ok h = refl
   ends_open k m (MigrateFrom leaf source target) o ok h = and_left _ true h
 
   ends_close : (k m : ℕ) (y : Action) (o : Outcome) → is_success c y o ≡ true → takes_run r n y ≡ false → closes c r n (Ended k y o m) ≡ false
   ends_close k m (Fence node) o ok h = rest_of (node == n) _ false h
   ends_close k m (Probe leaf node) o ok h = and_left _ true (and_left _ (is_code_among (7 ∷ 5 ∷ []) o) h)
-  ends_close k m (Cell Start leaf node interval held) o ok h = refl
-  ends_close k m (Cell Stop leaf node interval held) o ok h = and_left _ true (and_left _ (is_code_among (0 ∷ []) o) h)
-  ends_close k m (Cell Promote leaf node interval held) o ok h = refl
-  ends_close k m (Cell Demote leaf node interval held) o ok h = refl
-  ends_close k m (Cell Monitor leaf node interval role.Started) o ok h = watched _ _ _ _ ok (started_codes o)
-  ends_close k m (Cell Monitor leaf node interval role.Promoted) o ok h = watched _ _ _ _ ok (promoted_codes o)
+  ends_close k m (Operation Start leaf node interval held) o ok h = refl
+  ends_close k m (Operation Stop leaf node interval held) o ok h = and_left _ true (and_left _ (is_code_among (0 ∷ []) o) h)
+  ends_close k m (Operation Promote leaf node interval held) o ok h = refl
+  ends_close k m (Operation Demote leaf node interval held) o ok h = refl
+  ends_close k m (Operation Monitor leaf node interval role.Started) o ok h = watched _ _ _ _ ok (started_codes o)
+  ends_close k m (Operation Monitor leaf node interval role.Promoted) o ok h = watched _ _ _ _ ok (promoted_codes o)
   ends_close k m (MigrateTo leaf source target) o ok h = refl
   ends_close k m (MigrateFrom leaf source target) o ok h = refl
 
   takes_close : (k m : ℕ) (y : Action) (o : Outcome) → is_success c y o ≡ true → takes_run r n y ≡ true → closes c r n (Ended k y o m) ≡ true
   takes_close k m (Fence node) o ok h = taken_out (node == n) _ false h (first_passes _ false ok refl)
   takes_close k m (Probe leaf node) o ok h = shows _ _ h (probed_off o (first_passes _ false ok refl))
-  takes_close k m (Cell Stop leaf node interval held) o ok h = shows _ _ h (first_passes _ false ok refl)
+  takes_close k m (Operation Stop leaf node interval held) o ok h = shows _ _ h (first_passes _ false ok refl)
   takes_close k m _ o ok h = cc
 
   takes_give : (y : Action) → takes_run r n y ≡ true → gives_run r n y ≡ false
   takes_give (Fence node) h = refl
   takes_give (Probe leaf node) h = refl
-  takes_give (Cell Stop leaf node interval held) h = refl
+  takes_give (Operation Stop leaf node interval held) h = refl
   takes_give _ h = cc
 
   -- So where it may run, event by event.

@@ -4,7 +4,7 @@ use Rattle.std.specs.Prelude.{Contains}
 use Rattle.std.proofs.lemmas.Bool.{and_from, both_ways, false_from_ne_true}
 use Rattle.lemmas.proofs.Booleans.{sooner, number_itself}
 use Rattle.cluster_types.specs.declared.journal.Action.{Action}
-use Rattle.cluster_types.specs.declared.journal.Action.TheVariants.{Fence, Probe, Cell}
+use Rattle.cluster_types.specs.declared.journal.Action.TheVariants.{Fence, Probe, Operation}
 use Rattle.cluster_types.specs.declared.journal.Event.{Event}
 use Rattle.cluster_types.specs.declared.journal.Event.TheVariants.{Begin, Ended}
 use Rattle.cluster_types.specs.declared.leaf.Op.TheVariants as op
@@ -51,7 +51,7 @@ stop_at false cell.Blocked u e h g = absurd (let f : ⊥ = cc in f)
 
 module _ (t : Transition) (targets : Targets) (carries : Carries t targets) (r n : ℕ) (nowhere : is_somewhere (targets r n) ≡ false) where
   pub stop_needed : r < length t.cluster.leaves → n < length t.cluster.nodes → is_pinned t.cluster t.planned_at r ≡ false → is_active (state t r n) ≡ true
-      → IsNeeded t targets (Cell op.Stop r n 0 role.Started)
+      → IsNeeded t targets (Operation op.Stop r n 0 role.Started)
   stop_needed h l free running =
       step_needed t targets r n op.Stop (λ e. let f : ⊥ = cc in f) h l
       (inr (uncycled_nowhere t targets r n nowhere, stop_at (is_pinned t.cluster t.planned_at r) (state t r n) (targets r n) free running nowhere))
@@ -61,7 +61,7 @@ module _ (t : Transition) (targets : Targets) (carries : Carries t targets) (r n
 
   -- what takes the leaf away and has succeeded shuts the cell for good
   module _ (x : Action) (number : HasNumber t x) (takes : takes_run r n x ≡ true)
-      (demotes : is_promoted_state (state t r n) ≡ true → Must t (Cell op.Demote r n 0 role.Started) x) where
+      (demotes : is_promoted_state (state t r n) ≡ true → Must t (Operation op.Demote r n 0 role.Started) x) where
     sooner_or_still : (R : Type 0) (j : ℕ) (y : Action) → action_at t j ≡ Some y → (gives_run r n y ≡ false → R) → (t.precedes j number.number ≡ true) ⊎ R
     sooner_or_still R j y is still = by (gives_run r n y) refl
       where
@@ -69,7 +69,7 @@ module _ (t : Transition) (targets : Targets) (carries : Carries t targets) (r n
         by false e = inr (still e)
         by true e = given (run_gives t.cluster t.planned_at targets r n y (carries.needed j y is) e)
           where
-            given : (is_somewhere (targets r n) ≡ true) ⊎ ((y ≡ Cell op.Demote r n 0 role.Started) × (is_promoted_state (state t r n) ≡ true)) → (t.precedes j number.number ≡ true) ⊎ R
+            given : (is_somewhere (targets r n) ≡ true) ⊎ ((y ≡ Operation op.Demote r n 0 role.Started) × (is_promoted_state (state t r n) ≡ true)) → (t.precedes j number.number ≡ true) ⊎ R
             given (inl there) = refuse (is_somewhere (targets r n)) nowhere there
             given (inr (same, promoted)) = inl (carries.precede j number.number y x is number.is (subst (λ z. Must t z x) (sym same) (demotes promoted)))
 
@@ -94,24 +94,24 @@ module _ (t : Transition) (targets : Targets) (carries : Carries t targets) (r n
       ])
 
   -- a demote comes before the stop of its cell
-  demote_first : Must t (Cell op.Demote r n 0 role.Started) (Cell op.Stop r n 0 role.Started)
+  demote_first : Must t (Operation op.Demote r n 0 role.Started) (Operation op.Stop r n 0 role.Started)
   demote_first =
-      by_cell t (Cell op.Demote r n 0 role.Started) (Cell op.Stop r n 0 role.Started)
+      by_cell t (Operation op.Demote r n 0 role.Started) (Operation op.Stop r n 0 role.Started)
       (rw (number_itself r) (rw (number_itself n) refl))
 
   -- Once its probe, its stop and the fence of its node have succeeded, as far as they are needed.
   module _ (since : List Event) (calm : Calm t since) (h : r < length t.cluster.leaves) (l : n < length t.cluster.nodes)
       (free : is_pinned t.cluster t.planned_at r ≡ false) (orderly : Orderly t.planned_at) (acts : Acts t n)
-      (probed : Done t since (Probe r n)) (stopped : Done t since (Cell op.Stop r n 0 role.Started)) (fenced : Done t since (Fence n)) where
+      (probed : Done t since (Probe r n)) (stopped : Done t since (Operation op.Stop r n 0 role.Started)) (fenced : Done t since (Fence n)) where
     taken_by : (x : Action) → IsNeeded t targets x → Done t since x → takes_run r n x ≡ true
-        → (is_promoted_state (state t r n) ≡ true → Must t (Cell op.Demote r n 0 role.Started) x) → IsOff (journal t since)
+        → (is_promoted_state (state t r n) ≡ true → Must t (Operation op.Demote r n 0 role.Started) x) → IsOff (journal t since)
     taken_by x needed done takes demotes =
         let number = carries.numbered x needed in
         shut_by x number takes demotes since calm (done number)
 
     after_stop : is_active (state t r n) ≡ true → IsOff (journal t since)
     after_stop running =
-        taken_by (Cell op.Stop r n 0 role.Started) (stop_needed h l free running) stopped (own_cell r n) (λ e. demote_first)
+        taken_by (Operation op.Stop r n 0 role.Started) (stop_needed h l free running) stopped (own_cell r n) (λ e. demote_first)
 
     pub elsewhere_off : IsOff (journal t since)
     elsewhere_off = by (state t r n) refl

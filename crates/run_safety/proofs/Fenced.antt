@@ -6,7 +6,7 @@ use Rattle.std.proofs.lemmas.Bool.{false_from_ne_true}
 use Rattle.lemmas.proofs.Booleans.{first_passes, sooner, number_itself}
 use Rattle.lemmas.proofs.Counts.{count-append, count-is, count-none}
 use Rattle.cluster_types.specs.declared.journal.Action.{Action}
-use Rattle.cluster_types.specs.declared.journal.Action.TheVariants.{Fence, Probe, Cell, MigrateTo, MigrateFrom}
+use Rattle.cluster_types.specs.declared.journal.Action.TheVariants.{Fence, Probe, Operation, MigrateTo, MigrateFrom}
 use Rattle.cluster_types.specs.declared.journal.Event.{Event}
 use Rattle.cluster_types.specs.declared.journal.Event.TheVariants.{Wait, Begin, Ended}
 use Rattle.cluster_types.specs.declared.journal.Outcome.{Outcome}
@@ -74,7 +74,7 @@ module _ (t : Transition) (targets : Targets) (carries : Carries t targets) (sin
       by true e = signed n es (Ended k (Fence node) o m) was_fenced (rw e refl)
       by false e = still n es (Ended k (Fence node) o m ∷ []) (more _ [] (rw e refl) no_more) ∙ was
   fence_shows es k m (Probe r node) o was = still n es _ (more _ [] refl no_more) ∙ was
-  fence_shows es k m (Cell op r node i h) o was = still n es _ (more _ [] refl no_more) ∙ was
+  fence_shows es k m (Operation op r node i h) o was = still n es _ (more _ [] refl no_more) ∙ was
   fence_shows es k m (MigrateTo r from to) o was = still n es _ (more _ [] refl no_more) ∙ was
   fence_shows es k m (MigrateFrom r from to) o was = still n es _ (more _ [] refl no_more) ∙ was
 

@@ -3,7 +3,7 @@ use Rattle.std.proofs.Common.{inl, inr, ◌⊎◌, ◌≡◌, ℕ, true, List, r
 use Rattle.lemmas.proofs.Booleans.{later}
 use Rattle.cluster_types.specs.declared.cluster.Cluster.{Cluster}
 use Rattle.cluster_types.specs.declared.journal.Action.{Action}
-use Rattle.cluster_types.specs.declared.journal.Action.TheVariants.{Cell}
+use Rattle.cluster_types.specs.declared.journal.Action.TheVariants.{Operation}
 use Rattle.cluster_types.specs.declared.journal.Event.{Event}
 use Rattle.cluster_types.specs.declared.leaf.Op.{Op}
 use Rattle.cluster_types.specs.declared.leaf.Op.TheVariants as op
@@ -31,18 +31,18 @@ monitored_promoted target.Started h = cc
 monitored_promoted target.Nowhere h = cc
 
 module _ (c : Cluster) (es : List Event) (targets : Targets) where
-  pub start_step : (r n : ℕ) → NeededBeforeMigration c es targets (Cell op.Start r n 0 role.Started) → IsStep c es targets r n op.Start
+  pub start_step : (r n : ℕ) → NeededBeforeMigration c es targets (Operation op.Start r n 0 role.Started) → IsStep c es targets r n op.Start
   start_step r n (step _ _ _ h l g) = is_step c es targets r n op.Start g
 
   module _ (r n : ℕ) where
     -- there is a target, or it is a demote of what was promoted
     abbrev pub Gives : Action → Type 0
-    Gives y = (is_somewhere (targets r n) ≡ true) ⊎ ((y ≡ Cell op.Demote r n 0 role.Started) × (is_promoted_state (cell_state c r n es) ≡ true))
+    Gives y = (is_somewhere (targets r n) ≡ true) ⊎ ((y ≡ Operation op.Demote r n 0 role.Started) × (is_promoted_state (cell_state c r n es) ≡ true))
 
     here_too : (s m : ℕ) → (s ≡ r) × (m ≡ n) → is_somewhere (targets s m) ≡ true → is_somewhere (targets r n) ≡ true
     here_too s m (e, f) h = subst (λ z. is_somewhere (targets z n) ≡ true) e (subst (λ z. is_somewhere (targets s z) ≡ true) f h)
 
-    step_gives : (s m : ℕ) (o : Op) → IsStep c es targets s m o → gives_run r n (Cell o s m 0 role.Started) ≡ true → Gives (Cell o s m 0 role.Started)
+    step_gives : (s m : ℕ) (o : Op) → IsStep c es targets s m o → gives_run r n (Operation o s m 0 role.Started) ≡ true → Gives (Operation o s m 0 role.Started)
     step_gives s m op.Start is h = inl (here_too s m (one_cell r n s m h) (later (is_known (cell_state c s m es)) _ is.fitting))
     step_gives s m op.Promote is h =
         inl (here_too s m (one_cell r n s m h) (promoted_somewhere (targets s m) (later (is_known (cell_state c s m es)) _ is.fitting)))
@@ -51,7 +51,7 @@ module _ (c : Cluster) (es : List Event) (targets : Targets) where
         let leaf = same.0 in
         let node = same.1 in
         inr (
-          subst (λ z. Cell op.Demote z m 0 role.Started ≡ Cell op.Demote r n 0 role.Started) (sym leaf) (subst (λ z. Cell op.Demote r z 0 role.Started ≡ Cell op.Demote r n 0 role.Started) (sym node) refl),
+          subst (λ z. Operation op.Demote z m 0 role.Started ≡ Operation op.Demote r n 0 role.Started) (sym leaf) (subst (λ z. Operation op.Demote r z 0 role.Started ≡ Operation op.Demote r n 0 role.Started) (sym node) refl),
           subst (λ z. is_promoted_state (cell_state c z n es) ≡ true) leaf (subst (λ z. is_promoted_state (cell_state c s z es) ≡ true) node is.fitting),
         )
     step_gives s m op.Stop is h = absurd (let f : ⊥ = cc in f)
@@ -72,14 +72,14 @@ module _ (c : Cluster) (es : List Event) (targets : Targets) where
     promoted_too : (s m : ℕ) → (s ≡ r) × (m ≡ n) → is_promoted_target (targets s m) ≡ true → is_promoted_target (targets r n) ≡ true
     promoted_too s m (e, f) h = subst (λ z. is_promoted_target (targets z n) ≡ true) e (subst (λ z. is_promoted_target (targets s z) ≡ true) f h)
 
-    step_promotes : (s m : ℕ) (o : Op) → IsStep c es targets s m o → gives_promoted r n (Cell o s m 0 role.Started) ≡ true → is_promoted_target (targets r n) ≡ true
+    step_promotes : (s m : ℕ) (o : Op) → IsStep c es targets s m o → gives_promoted r n (Operation o s m 0 role.Started) ≡ true → is_promoted_target (targets r n) ≡ true
     step_promotes s m op.Promote is h = promoted_too s m (one_cell r n s m h) (later (is_known (cell_state c s m es)) _ is.fitting)
     step_promotes s m op.Start is h = cc
     step_promotes s m op.Demote is h = cc
     step_promotes s m op.Stop is h = cc
     step_promotes s m op.Monitor is h = cc
 
-    watch_promotes : (s m ms : ℕ) (held : Role) → is_monitor_for held (targets s m) ≡ true → gives_promoted r n (Cell op.Monitor s m ms held) ≡ true
+    watch_promotes : (s m ms : ℕ) (held : Role) → is_monitor_for held (targets s m) ≡ true → gives_promoted r n (Operation op.Monitor s m ms held) ≡ true
         → is_promoted_target (targets r n) ≡ true
     watch_promotes s m ms role.Started g h = cc
     watch_promotes s m ms role.Promoted g h = promoted_too s m (one_cell r n s m h) (monitored_promoted (targets s m) g)

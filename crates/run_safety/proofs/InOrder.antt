@@ -6,7 +6,7 @@ use Rattle.std.proofs.lemmas.Bool.{or_parts}
 use Rattle.std.proofs.lemmas.List.{append_assoc}
 use Rattle.std.proofs.lemmas.List.Folds.{list_any-append}
 use Rattle.cluster_types.specs.declared.journal.Action.{Action}
-use Rattle.cluster_types.specs.declared.journal.Action.TheVariants.{Fence, Probe, Cell, MigrateTo, MigrateFrom}
+use Rattle.cluster_types.specs.declared.journal.Action.TheVariants.{Fence, Probe, Operation, MigrateTo, MigrateFrom}
 use Rattle.cluster_types.specs.declared.journal.Event.{Event}
 use Rattle.cluster_types.specs.declared.journal.Event.TheVariants.{Up, Begin, Ended}
 use Rattle.cluster_types.specs.declared.journal.Outcome.{Outcome}
@@ -42,7 +42,7 @@ end_shows_nothing t keeps k n m (Fence node) o is on = by (node == n) refl
         absurd (let f : ⊥ = cc in f)
     by false e = rw e refl
 end_shows_nothing t keeps k n m (Probe r node) o is on = refl
-end_shows_nothing t keeps k n m (Cell op r node interval role) o is on = refl
+end_shows_nothing t keeps k n m (Operation op r node interval role) o is on = refl
 end_shows_nothing t keeps k n m (MigrateTo r source to) o is on = refl
 end_shows_nothing t keeps k n m (MigrateFrom r source to) o is on = refl
 
@@ -53,7 +53,7 @@ gone_shows_nothing k n m (Fence node) = by (node == n)
     by true = refl
     by false = refl
 gone_shows_nothing k n m (Probe r node) = refl
-gone_shows_nothing k n m (Cell op r node interval role) = refl
+gone_shows_nothing k n m (Operation op r node interval role) = refl
 gone_shows_nothing k n m (MigrateTo r source to) = refl
 gone_shows_nothing k n m (MigrateFrom r source to) = refl
 
@@ -61,7 +61,7 @@ gone_shows_nothing k n m (MigrateFrom r source to) = refl
 on_wants : (k n : ℕ) (a : Action) → is_on n a ≡ true → wants_node n (Begin k a) ≡ true
 on_wants k n (Fence node) h = h
 on_wants k n (Probe r node) h = h
-on_wants k n (Cell op r node interval role) h = h
+on_wants k n (Operation op r node interval role) h = h
 on_wants k n (MigrateTo r source to) h = rw h refl
 on_wants k n (MigrateFrom r source to) h = h
 

@@ -6,7 +6,7 @@ use Rattle.std.proofs.lemmas.Bool.{or_from, or_parts}
 use Rattle.std.proofs.lemmas.List.Folds.{list_any-append}
 use Rattle.cluster_types.specs.declared.cluster.Cluster.{Cluster}
 use Rattle.cluster_types.specs.declared.journal.Action.{Action}
-use Rattle.cluster_types.specs.declared.journal.Action.TheVariants.{Fence, Probe, Cell, MigrateTo, MigrateFrom}
+use Rattle.cluster_types.specs.declared.journal.Action.TheVariants.{Fence, Probe, Operation, MigrateTo, MigrateFrom}
 use Rattle.cluster_types.specs.declared.journal.Event.{Event}
 use Rattle.cluster_types.specs.declared.journal.Event.TheVariants.{Wait, Begin, Ended}
 use Rattle.cluster_types.specs.declared.journal.Outcome.{Outcome}
@@ -52,7 +52,7 @@ module _ (c : Cluster) (r n : ℕ) where
   not_away : (k m : ℕ) (y : Action) (o : Outcome) → is_of_cell r n y ≡ true → is_sending_from r n y ≡ false → is_sent_away (Ended k y o m) ≡ false
   not_away k m (Fence node) o h g = refl
   not_away k m (Probe leaf node) o h g = refl
-  not_away k m (Cell op leaf node i held) o h g = refl
+  not_away k m (Operation op leaf node i held) o h g = refl
   not_away k m (MigrateTo leaf source to) o h g = cc
   not_away k m (MigrateFrom leaf source to) o h g = refl
 

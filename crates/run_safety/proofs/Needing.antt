@@ -2,7 +2,7 @@
 use Rattle.std.proofs.Common.{◌⊎◌, ◌≡◌, ◌<◌, ℕ, true, false, List, length}
 use Rattle.lemmas.proofs.Booleans.{later, sooner}
 use Rattle.cluster_types.specs.declared.journal.Action.{Action}
-use Rattle.cluster_types.specs.declared.journal.Action.TheVariants.{Fence, Probe, Cell}
+use Rattle.cluster_types.specs.declared.journal.Action.TheVariants.{Fence, Probe, Operation}
 use Rattle.cluster_types.specs.declared.journal.Event.{Event}
 use Rattle.cluster_types.specs.declared.leaf.Op.{Op}
 use Rattle.cluster_types.specs.declared.leaf.Op.TheVariants as op
@@ -53,8 +53,8 @@ module _ (t : Transition) where
       probe_needed h l e = kept (Probe r n) (probe r n h l e) (λ s from m g same. let f : ⊥ = cc in f)
 
       pub step_needed : (o : Op) → (o ≡ op.Start → ⊥) → r < length t.cluster.leaves → n < length t.cluster.nodes → GetsStep t.cluster t.planned_at targets r n o
-          → IsNeeded (Cell o r n 0 role.Started)
-      step_needed o other h l g = kept (Cell o r n 0 role.Started) (step r n o h l g) (λ s from m mig same. other (let e : o ≡ op.Start = cc in e))
+          → IsNeeded (Operation o r n 0 role.Started)
+      step_needed o other h l g = kept (Operation o r n 0 role.Started) (step r n o h l g) (λ s from m mig same. other (let e : o ≡ op.Start = cc in e))
 
       -- only what runs, and is to stay, is cycled
       pub uncycled_idle : runs (state r n) ≡ false → Cycled t.cluster t.planned_at targets r n → ⊥

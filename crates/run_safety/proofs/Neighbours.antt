@@ -2,7 +2,7 @@
 use Rattle.std.proofs.Common.{arith, inl, inr, ◌⊎◌, ◌≡◌, ◌<◌, ◌&&◌, not, nat_lt, if◌then◌else◌, ℕ, Bool, true, false, List, length, refl}
 use Rattle.std.proofs.lemmas.Bool.{and_right, both_ways, false_from_ne_true}
 use Rattle.std.proofs.lemmas.Bool.Decides.{nat_tests}
-use Rattle.cluster_types.specs.declared.journal.Action.TheVariants.{Fence, Probe, Cell}
+use Rattle.cluster_types.specs.declared.journal.Action.TheVariants.{Fence, Probe, Operation}
 use Rattle.cluster_types.specs.declared.journal.Event.{Event}
 use Rattle.cluster_types.specs.declared.leaf.Op.TheVariants as op
 use Rattle.cluster_types.specs.declared.leaf.Role.{Role}
@@ -50,7 +50,7 @@ pinned_down true true u e h = refuse (is_promoted_target u) h (rw e refl)
 
 module _ (t : Transition) (targets : Targets) (carries : Carries t targets) (sound : IsSound t targets) (orderly : Orderly t.planned_at)
     (since : List Event) (calm : Calm t since) (s n : ℕ) (h : s < length t.cluster.leaves) (l : n < length t.cluster.nodes) (online : is_online t.cluster n t.planned_at ≡ true)
-    (probed : Done t since (Probe s n)) (stopped : Done t since (Cell op.Stop s n 0 role.Started))
+    (probed : Done t since (Probe s n)) (stopped : Done t since (Operation op.Stop s n 0 role.Started))
     (fenced : Done t since (Fence n)) where
   -- of a pinned leaf without a target there: it may not run there, or is asked first
   abbrev Unasked : Type 0
@@ -97,7 +97,7 @@ module _ (t : Transition) (targets : Targets) (carries : Carries t targets) (sou
               (λ p. refuse (is_promoted_state (state t s n)) (unprobed_plain u) p) since calm (probe_done u)
           of (inr off) = stays_off t targets carries s n nowhere (plain_state off) off since calm
 
-  pub promoted_not : is_promoted_target (targets s n) ≡ false → Done t since (Cell op.Demote s n 0 role.Started)
+  pub promoted_not : is_promoted_target (targets s n) ≡ false → Done t since (Operation op.Demote s n 0 role.Started)
       → may_be_promoted t.cluster s n (journal t since) ≡ false
   promoted_not untargeted demoted = able_or_not (is_promotable t.cluster s) refl
     where
@@ -122,7 +122,7 @@ module _ (t : Transition) (targets : Targets) (carries : Carries t targets) (sou
       able_or_not true e = and_right (is_promotable t.cluster s) (is_left_promoted t.cluster s n (journal t since)) (down e (is_pinned t.cluster t.planned_at s) refl)
 
   -- what takes the role, or asks for it, comes first: then it may not be held
-  pub holds_not : (held : Role) → holds_role targets s held n ≡ false → (held ≡ role.Promoted → Done t since (Cell op.Demote s n 0 role.Started))
+  pub holds_not : (held : Role) → holds_role targets s held n ≡ false → (held ≡ role.Promoted → Done t since (Operation op.Demote s n 0 role.Started))
       → may_have_role t.cluster s held n (journal t since) ≡ false
   holds_not role.Started none demoted = runs_not none
   holds_not role.Promoted none demoted = promoted_not none (demoted refl)

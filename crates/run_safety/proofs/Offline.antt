@@ -5,7 +5,7 @@ use Rattle.std.proofs.lemmas.List.{append_assoc}
 use Rattle.std.proofs.lemmas.Bool.{or_left, or_right}
 use Rattle.lemmas.proofs.Booleans.{sooner, later}
 use Rattle.cluster_types.specs.declared.cluster.Cluster.{Cluster}
-use Rattle.cluster_types.specs.declared.journal.Action.TheVariants.{Fence, Probe, Cell, MigrateTo, MigrateFrom}
+use Rattle.cluster_types.specs.declared.journal.Action.TheVariants.{Fence, Probe, Operation, MigrateTo, MigrateFrom}
 use Rattle.cluster_types.specs.declared.journal.Event.{Event}
 use Rattle.cluster_types.specs.declared.journal.Event.TheVariants.{Up, Down, Lost, Quorum, Wait, Cleanup, Begin, Ended}
 use Rattle.cluster_types.specs.declared.leaf.OnFail.{OnFail}
@@ -48,17 +48,17 @@ orderly_front es e h before after d n q w = h before (after ++ e ∷ []) d n (ap
 -- what opens a cell wants its node, or the node joins by it
 opens_wants : (r n : ℕ) (e : Event) → opens_cell r n e ≡ true → (wants_node n e ≡ true) ⊎ (sign_of n e ≡ Some joined)
 opens_wants r n (Up node) h = inr (rw h refl)
-opens_wants r n (Begin k (Cell Start leaf node interval role)) h = inl (later (leaf == r) (node == n) h)
-opens_wants r n (Begin k (Cell Promote leaf node interval role)) h = inl (later (leaf == r) (node == n) h)
-opens_wants r n (Begin k (Cell Demote leaf node interval role)) h = inl (later (leaf == r) (node == n) h)
+opens_wants r n (Begin k (Operation Start leaf node interval role)) h = inl (later (leaf == r) (node == n) h)
+opens_wants r n (Begin k (Operation Promote leaf node interval role)) h = inl (later (leaf == r) (node == n) h)
+opens_wants r n (Begin k (Operation Demote leaf node interval role)) h = inl (later (leaf == r) (node == n) h)
 opens_wants r n (Begin k (MigrateTo leaf source target)) h = inl (or_right (source == n) (target == n) (later (leaf == r) (target == n) h))
 opens_wants r n (Begin k (MigrateFrom leaf source target)) h = inl (later (leaf == r) (target == n) h)
-opens_wants r n (Ended k (Cell Start leaf node interval role) o moment) h = inl (later (leaf == r) (node == n) h)
-opens_wants r n (Ended k (Cell Promote leaf node interval role) o moment) h = inl (later (leaf == r) (node == n) h)
-opens_wants r n (Ended k (Cell Demote leaf node interval role) o moment) h = inl (later (leaf == r) (node == n) h)
+opens_wants r n (Ended k (Operation Start leaf node interval role) o moment) h = inl (later (leaf == r) (node == n) h)
+opens_wants r n (Ended k (Operation Promote leaf node interval role) o moment) h = inl (later (leaf == r) (node == n) h)
+opens_wants r n (Ended k (Operation Demote leaf node interval role) o moment) h = inl (later (leaf == r) (node == n) h)
 opens_wants r n (Ended k (MigrateFrom leaf source target) o moment) h = inl (later (leaf == r) (target == n) h)
 opens_wants r n (Ended k (Probe leaf node) o moment) h = inl (later (leaf == r) (node == n) (sooner _ (not (is_code_among (7 ∷ 5 ∷ []) o)) h))
-opens_wants r n (Ended k (Cell Monitor leaf node interval role) o moment) h = inl (later (leaf == r) (node == n) (sooner _ (not (is_code_among (7 ∷ []) o)) h))
+opens_wants r n (Ended k (Operation Monitor leaf node interval role) o moment) h = inl (later (leaf == r) (node == n) (sooner _ (not (is_code_among (7 ∷ []) o)) h))
 opens_wants r n _ h = cc
 
 -- a sign by which a node is out closes its cells

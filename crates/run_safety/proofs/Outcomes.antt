@@ -5,7 +5,7 @@ use Rattle.std.specs.List.{last_or}
 use Rattle.std.proofs.lemmas.List.Elements.{filter-append}
 use Rattle.cluster_types.specs.declared.cluster.Cluster.{Cluster}
 use Rattle.cluster_types.specs.declared.journal.Action.{Action}
-use Rattle.cluster_types.specs.declared.journal.Action.TheVariants.{Fence, Probe, Cell, MigrateTo, MigrateFrom}
+use Rattle.cluster_types.specs.declared.journal.Action.TheVariants.{Fence, Probe, Operation, MigrateTo, MigrateFrom}
 use Rattle.cluster_types.specs.declared.journal.Event.{Event}
 use Rattle.cluster_types.specs.declared.journal.Event.TheVariants.{Ended}
 use Rattle.cluster_types.specs.declared.journal.Outcome.{Outcome}
@@ -27,12 +27,12 @@ expected_good a TimedOut h = cc
 expected_good a Gone h = refl
 expected_good (Fence n) (Code code) h = grind arith
 expected_good (Probe r n) (Code code) h = grind arith
-expected_good (Cell Start r n i held) (Code code) h = grind arith
-expected_good (Cell Stop r n i held) (Code code) h = grind arith
-expected_good (Cell Promote r n i held) (Code code) h = grind arith
-expected_good (Cell Demote r n i held) (Code code) h = grind arith
-expected_good (Cell Monitor r n i role.Started) (Code code) h = grind arith
-expected_good (Cell Monitor r n i role.Promoted) (Code code) h = grind arith
+expected_good (Operation Start r n i held) (Code code) h = grind arith
+expected_good (Operation Stop r n i held) (Code code) h = grind arith
+expected_good (Operation Promote r n i held) (Code code) h = grind arith
+expected_good (Operation Demote r n i held) (Code code) h = grind arith
+expected_good (Operation Monitor r n i role.Started) (Code code) h = grind arith
+expected_good (Operation Monitor r n i role.Promoted) (Code code) h = grind arith
 expected_good (MigrateTo r n m) (Code code) h = grind arith
 expected_good (MigrateFrom r n m) (Code code) h = grind arith
 

@@ -4,7 +4,7 @@ use Rattle.std.specs.Prelude.{Some}
 use Rattle.lemmas.proofs.Booleans.{sooner, later}
 use Rattle.cluster_types.specs.declared.cluster.Cluster.{Cluster}
 use Rattle.cluster_types.specs.declared.journal.Action.{Action}
-use Rattle.cluster_types.specs.declared.journal.Action.TheVariants.{Cell}
+use Rattle.cluster_types.specs.declared.journal.Action.TheVariants.{Operation}
 use Rattle.cluster_types.specs.declared.journal.Event.{Event}
 use Rattle.cluster_types.specs.declared.leaf.Op.{Op}
 use Rattle.cluster_types.specs.declared.leaf.Op.TheVariants as op
@@ -39,7 +39,7 @@ module _ (c : Cluster) (es : List Event) (targets : Targets) where
     known = sooner (is_known (cell_state c r n es)) _ is.fitting;
   }
 
-  step_given : (r n : ℕ) (o : Op) (at : CellOf) → r < length c.leaves → n < length c.nodes → IsStep c es targets r n o → gives_any (Cell o r n 0 role.Started) ≡ Some at
+  step_given : (r n : ℕ) (o : Op) (at : CellOf) → r < length c.leaves → n < length c.nodes → IsStep c es targets r n o → gives_any (Operation o r n 0 role.Started) ≡ Some at
       → IsGiven at.leaf at.node
   step_given r n op.Start at h l is e = at_cell r n at e (of_start r n h l is)
   step_given r n op.Promote at h l is e =

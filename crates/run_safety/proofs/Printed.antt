@@ -4,7 +4,7 @@ use Rattle.std.specs.Prelude.{Option, Some, map, find}
 use Rattle.std.specs.List.{flat_map, list_any}
 use Rattle.std.specs.Option.{option_map_or}
 use Rattle.cluster_types.specs.declared.journal.Action.{Action}
-use Rattle.cluster_types.specs.declared.journal.Action.TheVariants.{Fence, Probe, Cell, MigrateTo, MigrateFrom}
+use Rattle.cluster_types.specs.declared.journal.Action.TheVariants.{Fence, Probe, Operation, MigrateTo, MigrateFrom}
 use Rattle.cluster_types.specs.declared.leaf.Op.TheVariants.{Start, Stop, Promote, Demote, Monitor}
 use Rattle.cluster_types.specs.declared.journal.Answer.{Answer}
 use Rattle.cluster_types.specs.declared.journal.Answer.TheVariants as answer
@@ -38,11 +38,11 @@ gone_line : (k m : ℕ) (a : Action) → event_lines (Ended k a Gone m) ≡ []
 gone_line (suc k) m a = refl
 gone_line zero m (Fence n) = refl
 gone_line zero m (Probe r n) = refl
-gone_line zero m (Cell Start r n interval role) = refl
-gone_line zero m (Cell Stop r n interval role) = refl
-gone_line zero m (Cell Promote r n interval role) = refl
-gone_line zero m (Cell Demote r n interval role) = refl
-gone_line zero m (Cell Monitor r n interval role) = refl
+gone_line zero m (Operation Start r n interval role) = refl
+gone_line zero m (Operation Stop r n interval role) = refl
+gone_line zero m (Operation Promote r n interval role) = refl
+gone_line zero m (Operation Demote r n interval role) = refl
+gone_line zero m (Operation Monitor r n interval role) = refl
 gone_line zero m (MigrateTo r source to) = refl
 gone_line zero m (MigrateFrom r source to) = refl
 

@@ -4,7 +4,7 @@ use Rattle.std.specs.Prelude.{Some, Contains}
 use Rattle.std.proofs.lemmas.Bool.{not-true, and_from}
 use Rattle.lemmas.proofs.Booleans.{later, number_itself}
 use Rattle.cluster_types.specs.declared.journal.Action.{Action}
-use Rattle.cluster_types.specs.declared.journal.Action.TheVariants.{Fence, Probe, Cell}
+use Rattle.cluster_types.specs.declared.journal.Action.TheVariants.{Fence, Probe, Operation}
 use Rattle.cluster_types.specs.declared.journal.Event.{Event}
 use Rattle.cluster_types.specs.declared.journal.Event.TheVariants.{Ended}
 use Rattle.cluster_types.specs.declared.leaf.Op.{Op}
@@ -48,31 +48,31 @@ module _ (t : Transition) (targets : Targets) (carries : Carries t targets) (sou
     unwatched : {R : Type 0} → is_monitor_for role.Started (targets r n) ≡ true → R
     unwatched e = refuse (is_monitor_for role.Started (targets r n)) (rw wanted refl) e
 
-    raised : IsNeeded t targets (Cell op.Promote r n 0 role.Started) → IsUp (journal t since)
+    raised : IsNeeded t targets (Operation op.Promote r n 0 role.Started) → IsUp (journal t since)
     raised needed =
-        turned t IsUp number.number (Cell op.Promote r n 0 role.Started) number.is
-        (λ es o m ok. up_turned t.cluster r n es number.number m (Cell op.Promote r n 0 role.Started) o (rw (number_itself r) (rw (number_itself n) refl)))
+        turned t IsUp number.number (Operation op.Promote r n 0 role.Started) number.is
+        (λ es o m ok. up_turned t.cluster r n es number.number m (Operation op.Promote r n 0 role.Started) o (rw (number_itself r) (rw (number_itself n) refl)))
         (λ es j y is up. inr (up_begun t.cluster r n es j y up))
         (λ es j m y o is ok up. taken_or_not t targets carries sound r n online ((t.precedes j number.number ≡ true) ⊎ IsUp (es ++ Ended j y o m ∷ [])) j y is
         (λ e. inr (up_done t.cluster r n es j m y o ok e up)) (λ takes. inl (first j y is takes)))
-        (λ es s up. up_waited t.cluster r n es s up) since calm (done t targets carries sound orderly since calm all (Cell op.Promote r n 0 role.Started) number)
+        (λ es s up. up_waited t.cluster r n es s up) since calm (done t targets carries sound orderly since calm all (Operation op.Promote r n 0 role.Started) number)
       where
-        number : HasNumber t (Cell op.Promote r n 0 role.Started)
-        number = carries.numbered (Cell op.Promote r n 0 role.Started) needed
+        number : HasNumber t (Operation op.Promote r n 0 role.Started)
+        number = carries.numbered (Operation op.Promote r n 0 role.Started) needed
 
-        precedes : (j : ℕ) (y z : Action) → action_at t j ≡ Some y → y ≡ z → Must t z (Cell op.Promote r n 0 role.Started) → t.precedes j number.number ≡ true
-        precedes j y z is same must = carries.precede j number.number z (Cell op.Promote r n 0 role.Started) (subst (λ w. action_at t j ≡ Some w) same is) number.is must
+        precedes : (j : ℕ) (y z : Action) → action_at t j ≡ Some y → y ≡ z → Must t z (Operation op.Promote r n 0 role.Started) → t.precedes j number.number ≡ true
+        precedes j y z is same must = carries.precede j number.number z (Operation op.Promote r n 0 role.Started) (subst (λ w. action_at t j ≡ Some w) same is) number.is must
 
-        step_first : (o : Op) → is_taker o ≡ true → Must t (Cell o r n 0 role.Started) (Cell op.Promote r n 0 role.Started)
-        step_first op.Start e = by_cell t (Cell op.Start r n 0 role.Started) (Cell op.Promote r n 0 role.Started) (rw (number_itself r) (rw (number_itself n) refl))
-        step_first op.Stop e = by_demote t (Cell op.Stop r n 0 role.Started) (Cell op.Promote r n 0 role.Started) (number_itself r)
-        step_first op.Demote e = by_demote t (Cell op.Demote r n 0 role.Started) (Cell op.Promote r n 0 role.Started) (rw (number_itself r) refl)
+        step_first : (o : Op) → is_taker o ≡ true → Must t (Operation o r n 0 role.Started) (Operation op.Promote r n 0 role.Started)
+        step_first op.Start e = by_cell t (Operation op.Start r n 0 role.Started) (Operation op.Promote r n 0 role.Started) (rw (number_itself r) (rw (number_itself n) refl))
+        step_first op.Stop e = by_demote t (Operation op.Stop r n 0 role.Started) (Operation op.Promote r n 0 role.Started) (number_itself r)
+        step_first op.Demote e = by_demote t (Operation op.Demote r n 0 role.Started) (Operation op.Promote r n 0 role.Started) (rw (number_itself r) refl)
         step_first op.Promote e = cc
         step_first op.Monitor e = cc
 
         first : (j : ℕ) (y : Action) → action_at t j ≡ Some y → Takes t targets r n y → t.precedes j number.number ≡ true
-        first j y is (is_probe same u) = precedes j y (Probe r n) is same (by_probe t (Probe r n) (Cell op.Promote r n 0 role.Started) (number_itself r))
-        first j y is (is_a_step o same takes g) = precedes j y (Cell o r n 0 role.Started) is same (step_first o takes)
+        first j y is (is_probe same u) = precedes j y (Probe r n) is same (by_probe t (Probe r n) (Operation op.Promote r n 0 role.Started) (number_itself r))
+        first j y is (is_a_step o same takes g) = precedes j y (Operation o r n 0 role.Started) is same (step_first o takes)
         first j y is (is_watch e) = unwatched e
 
     remains : IsUp t.planned_at → is_unprobed_state (state t r n) ≡ false → ((o : Op) → Gets t targets r n o → ⊥) → IsUp (journal t since)
@@ -142,8 +142,8 @@ module _ (t : Transition) (targets : Targets) (carries : Carries t targets) (sou
       unpromoted : is_promoted_target (targets r n) ≡ false → may_be_promoted t.cluster r n (journal t since) ≡ false
       unpromoted e =
           promoted_not t targets carries sound orderly since calm r n h l online (done t targets carries sound orderly since calm all (Probe r n))
-          (done t targets carries sound orderly since calm all (Cell op.Stop r n 0 role.Started)) (done t targets carries sound orderly since calm all (Fence n)) e
-          (done t targets carries sound orderly since calm all (Cell op.Demote r n 0 role.Started))
+          (done t targets carries sound orderly since calm all (Operation op.Stop r n 0 role.Started)) (done t targets carries sound orderly since calm all (Fence n)) e
+          (done t targets carries sound orderly since calm all (Operation op.Demote r n 0 role.Started))
 
       by : (u : Target) → targets r n ≡ u → may_be_promoted t.cluster r n (journal t since) ≡ is_promoted_target (targets r n)
       by target.Nowhere e = rw e (unpromoted (rw e refl))

@@ -4,7 +4,7 @@ use Rattle.std.proofs.lemmas.Bool.{and_left, or_left}
 use Rattle.lemmas.proofs.Booleans.{first_passes}
 use Rattle.cluster_types.specs.declared.cluster.Cluster.{Cluster}
 use Rattle.cluster_types.specs.declared.journal.Action.{Action}
-use Rattle.cluster_types.specs.declared.journal.Action.TheVariants.{Fence, Probe, Cell, MigrateTo, MigrateFrom}
+use Rattle.cluster_types.specs.declared.journal.Action.TheVariants.{Fence, Probe, Operation, MigrateTo, MigrateFrom}
 use Rattle.cluster_types.specs.declared.journal.Event.{Event}
 use Rattle.cluster_types.specs.declared.journal.Event.TheVariants.{Wait, Begin, Ended}
 use Rattle.cluster_types.specs.declared.journal.Outcome.{Outcome}
@@ -41,55 +41,55 @@ not_promoted Gone h = cc
 
 module _ (c : Cluster) (r n : ℕ) where
   begins_promote : (k : ℕ) (y : Action) → gives_promoted r n y ≡ false → opens_promoted c r n (Begin k y) ≡ false
-  begins_promote k (Cell Promote leaf node interval held) h = and_left _ true h
+  begins_promote k (Operation Promote leaf node interval held) h = and_left _ true h
   begins_promote k (Fence node) h = refl
   begins_promote k (Probe leaf node) h = refl
-  begins_promote k (Cell Start leaf node interval held) h = refl
-  begins_promote k (Cell Stop leaf node interval held) h = refl
-  begins_promote k (Cell Demote leaf node interval held) h = refl
-  begins_promote k (Cell Monitor leaf node interval held) h = refl
+  begins_promote k (Operation Start leaf node interval held) h = refl
+  begins_promote k (Operation Stop leaf node interval held) h = refl
+  begins_promote k (Operation Demote leaf node interval held) h = refl
+  begins_promote k (Operation Monitor leaf node interval held) h = refl
   begins_promote k (MigrateTo leaf source target) h = refl
   begins_promote k (MigrateFrom leaf source target) h = refl
 
   ends_promote : (k m : ℕ) (y : Action) (o : Outcome) → is_success c y o ≡ true → gives_promoted r n y ≡ false → opens_promoted c r n (Ended k y o m) ≡ false
   ends_promote k m (Fence node) o ok h = refl
   ends_promote k m (Probe leaf node) o ok h = second_fails _ (is_code_among (8 ∷ 9 ∷ 191 ∷ []) o) true (not_promoted o (first_passes _ false ok refl))
-  ends_promote k m (Cell Start leaf node interval held) o ok h = refl
-  ends_promote k m (Cell Stop leaf node interval held) o ok h = refl
-  ends_promote k m (Cell Promote leaf node interval held) o ok h = and_left _ true h
-  ends_promote k m (Cell Demote leaf node interval held) o ok h = refl
-  ends_promote k m (Cell Monitor leaf node interval role.Started) o ok h = watched _ _ _ _ ok (started_only o)
-  ends_promote k m (Cell Monitor leaf node interval role.Promoted) o ok h = and_left _ _ (and_left _ _ h)
+  ends_promote k m (Operation Start leaf node interval held) o ok h = refl
+  ends_promote k m (Operation Stop leaf node interval held) o ok h = refl
+  ends_promote k m (Operation Promote leaf node interval held) o ok h = and_left _ true h
+  ends_promote k m (Operation Demote leaf node interval held) o ok h = refl
+  ends_promote k m (Operation Monitor leaf node interval role.Started) o ok h = watched _ _ _ _ ok (started_only o)
+  ends_promote k m (Operation Monitor leaf node interval role.Promoted) o ok h = and_left _ _ (and_left _ _ h)
   ends_promote k m (MigrateTo leaf source target) o ok h = refl
   ends_promote k m (MigrateFrom leaf source target) o ok h = refl
 
   ends_demote : (k m : ℕ) (y : Action) (o : Outcome) → is_success c y o ≡ true → takes_promoted r n y ≡ false → closes_promoted c r n (Ended k y o m) ≡ false
   ends_demote k m (Fence node) o ok h = rest_of (node == n) _ false h
   ends_demote k m (Probe leaf node) o ok h = and_left _ true (and_left _ (is_code_among (0 ∷ 190 ∷ 7 ∷ 5 ∷ []) o) h)
-  ends_demote k m (Cell Start leaf node interval held) o ok h = and_left _ true (and_left _ (is_code_among (0 ∷ []) o) h)
-  ends_demote k m (Cell Stop leaf node interval held) o ok h = and_left _ true (and_left _ (is_code_among (0 ∷ []) o) h)
-  ends_demote k m (Cell Promote leaf node interval held) o ok h = refl
-  ends_demote k m (Cell Demote leaf node interval held) o ok h = and_left _ true (and_left _ (is_code_among (0 ∷ []) o) h)
-  ends_demote k m (Cell Monitor leaf node interval role.Started) o ok h = and_left _ _ (and_left _ _ h)
-  ends_demote k m (Cell Monitor leaf node interval role.Promoted) o ok h = watched _ _ _ _ ok (promoted_only o)
+  ends_demote k m (Operation Start leaf node interval held) o ok h = and_left _ true (and_left _ (is_code_among (0 ∷ []) o) h)
+  ends_demote k m (Operation Stop leaf node interval held) o ok h = and_left _ true (and_left _ (is_code_among (0 ∷ []) o) h)
+  ends_demote k m (Operation Promote leaf node interval held) o ok h = refl
+  ends_demote k m (Operation Demote leaf node interval held) o ok h = and_left _ true (and_left _ (is_code_among (0 ∷ []) o) h)
+  ends_demote k m (Operation Monitor leaf node interval role.Started) o ok h = and_left _ _ (and_left _ _ h)
+  ends_demote k m (Operation Monitor leaf node interval role.Promoted) o ok h = watched _ _ _ _ ok (promoted_only o)
   ends_demote k m (MigrateTo leaf source target) o ok h = refl
   ends_demote k m (MigrateFrom leaf source target) o ok h = refl
 
   takes_demote : (k m : ℕ) (y : Action) (o : Outcome) → is_success c y o ≡ true → takes_promoted r n y ≡ true → is_sure y ≡ true → closes_promoted c r n (Ended k y o m) ≡ true
   takes_demote k m (Fence node) o ok h sure = taken_out (node == n) _ false h (first_passes _ false ok refl)
   takes_demote k m (Probe leaf node) o ok h sure = shows _ _ h (probed_unpromoted o (first_passes _ false ok refl))
-  takes_demote k m (Cell Start leaf node interval held) o ok h sure = shows _ _ h (first_passes _ false ok refl)
-  takes_demote k m (Cell Stop leaf node interval held) o ok h sure = shows _ _ h (first_passes _ false ok refl)
-  takes_demote k m (Cell Demote leaf node interval held) o ok h sure = shows _ _ h (first_passes _ false ok refl)
+  takes_demote k m (Operation Start leaf node interval held) o ok h sure = shows _ _ h (first_passes _ false ok refl)
+  takes_demote k m (Operation Stop leaf node interval held) o ok h sure = shows _ _ h (first_passes _ false ok refl)
+  takes_demote k m (Operation Demote leaf node interval held) o ok h sure = shows _ _ h (first_passes _ false ok refl)
   takes_demote k m _ o ok h sure = cc
 
   takes_give : (y : Action) → takes_promoted r n y ≡ true → gives_promoted r n y ≡ false
   takes_give (Fence node) h = refl
   takes_give (Probe leaf node) h = refl
-  takes_give (Cell Start leaf node interval held) h = refl
-  takes_give (Cell Stop leaf node interval held) h = refl
-  takes_give (Cell Demote leaf node interval held) h = refl
-  takes_give (Cell Monitor leaf node interval role.Started) h = refl
+  takes_give (Operation Start leaf node interval held) h = refl
+  takes_give (Operation Stop leaf node interval held) h = refl
+  takes_give (Operation Demote leaf node interval held) h = refl
+  takes_give (Operation Monitor leaf node interval role.Started) h = refl
   takes_give _ h = cc
 
   -- So where it may be promoted, event by event.

@@ -3,7 +3,7 @@ use Rattle.std.proofs.Common.{◌≡◌, ℕ, Bool, true, false, eqb-true, refl,
 use Rattle.std.specs.Prelude.{Some}
 use Rattle.std.proofs.lemmas.Bool.{both_ways}
 use Rattle.cluster_types.specs.declared.journal.Action.{Action}
-use Rattle.cluster_types.specs.declared.journal.Action.TheVariants.{Fence, Probe, Cell}
+use Rattle.cluster_types.specs.declared.journal.Action.TheVariants.{Fence, Probe, Operation}
 use Rattle.cluster_types.specs.declared.leaf.Op.{Op}
 use Rattle.cluster_types.specs.declared.leaf.Op.TheVariants as op
 use Rattle.cluster_types.specs.declared.leaf.Role.{Role}
@@ -33,23 +33,23 @@ module _ (t : Transition) (targets : Targets) (r n : ℕ) where
   -- what takes the role away on an online node: the probe of the cell, a step of it, or a monitor of what isn't promoted
   pub data Takes (y : Action) : Type 0 where
     is_probe : y ≡ Probe r n → is_unprobed_state (state t r n) ≡ true → Takes y
-    is_a_step : (o : Op) → y ≡ Cell o r n 0 role.Started → is_taker o ≡ true → Gets o → Takes y
+    is_a_step : (o : Op) → y ≡ Operation o r n 0 role.Started → is_taker o ≡ true → Gets o → Takes y
     is_watch : is_monitor_for role.Started (targets r n) ≡ true → Takes y
 
 module _ (t : Transition) (targets : Targets) (carries : Carries t targets) (sound : IsSound t targets) (r n : ℕ) (online : is_online t.cluster n t.planned_at ≡ true) where
-  here_step : (s m : ℕ) (o : Op) → is_taker o ≡ true → (s ≡ r) × (m ≡ n) → GetsStep t.cluster t.planned_at targets s m o → Takes t targets r n (Cell o s m 0 role.Started)
+  here_step : (s m : ℕ) (o : Op) → is_taker o ≡ true → (s ≡ r) × (m ≡ n) → GetsStep t.cluster t.planned_at targets s m o → Takes t targets r n (Operation o s m 0 role.Started)
   here_step s m o takes (leaf, node) g =
-      is_a_step o (subst (λ z. Cell o z m 0 role.Started ≡ Cell o r n 0 role.Started) (sym leaf) (ap (λ z. Cell o r z 0 role.Started) node)) takes
+      is_a_step o (subst (λ z. Operation o z m 0 role.Started ≡ Operation o r n 0 role.Started) (sym leaf) (ap (λ z. Operation o r z 0 role.Started) node)) takes
       (subst (λ z. GetsStep t.cluster t.planned_at targets z n o) leaf (subst (λ z. GetsStep t.cluster t.planned_at targets s z o) node g))
 
-  step_takes : (s m : ℕ) (o : Op) → GetsStep t.cluster t.planned_at targets s m o → takes_promoted r n (Cell o s m 0 role.Started) ≡ true → Takes t targets r n (Cell o s m 0 role.Started)
+  step_takes : (s m : ℕ) (o : Op) → GetsStep t.cluster t.planned_at targets s m o → takes_promoted r n (Operation o s m 0 role.Started) ≡ true → Takes t targets r n (Operation o s m 0 role.Started)
   step_takes s m op.Start g e = here_step s m op.Start refl (one_cell r n s m e) g
   step_takes s m op.Stop g e = here_step s m op.Stop refl (one_cell r n s m e) g
   step_takes s m op.Demote g e = here_step s m op.Demote refl (one_cell r n s m e) g
   step_takes s m op.Promote g e = absurd (let f : ⊥ = cc in f)
   step_takes s m op.Monitor g e = absurd (both_ways false refl (is_step t.cluster t.planned_at targets s m op.Monitor g).fitting)
 
-  watch_takes : (s m i : ℕ) (held : Role) → is_monitor_for held (targets s m) ≡ true → takes_promoted r n (Cell op.Monitor s m i held) ≡ true → Takes t targets r n (Cell op.Monitor s m i held)
+  watch_takes : (s m i : ℕ) (held : Role) → is_monitor_for held (targets s m) ≡ true → takes_promoted r n (Operation op.Monitor s m i held) ≡ true → Takes t targets r n (Operation op.Monitor s m i held)
   watch_takes s m i role.Started g e =
       let same = one_cell r n s m e in
       is_watch (subst (λ z. is_monitor_for role.Started (targets z n) ≡ true) same.0 (subst (λ z. is_monitor_for role.Started (targets s z) ≡ true) same.1 g))

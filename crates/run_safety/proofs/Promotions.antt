@@ -5,7 +5,7 @@ use Rattle.std.proofs.lemmas.Bool.{both_ways, true_from_ne_false}
 use Rattle.lemmas.proofs.Booleans.{later, number_itself}
 use Rattle.cluster_types.specs.declared.cluster.Cluster.{Cluster}
 use Rattle.cluster_types.specs.declared.journal.Action.{Action}
-use Rattle.cluster_types.specs.declared.journal.Action.TheVariants.{Fence, Probe, Cell, MigrateTo, MigrateFrom}
+use Rattle.cluster_types.specs.declared.journal.Action.TheVariants.{Fence, Probe, Operation, MigrateTo, MigrateFrom}
 use Rattle.cluster_types.specs.declared.journal.Answer.{Answer}
 use Rattle.cluster_types.specs.declared.journal.Event.{Event}
 use Rattle.cluster_types.specs.declared.leaf.Op.TheVariants as op
@@ -41,16 +41,16 @@ cap_promoted c es r = by (is_stopped_role (target_role_of c r) || is_unpromoted_
     by false = omega arith
 
 module _ (t : Transition) (targets : Targets) (carries : Carries t targets) (sound : IsSound t targets) (orderly : Orderly t.planned_at) where
-  module _ (since : List Event) (k r n i : ℕ) (held : Role) (calm : Calm t since) (begins : Begins t since k (Cell op.Promote r n i held)) where
+  module _ (since : List Event) (k r n i : ℕ) (held : Role) (calm : Calm t since) (begins : Begins t since k (Operation op.Promote r n i held)) where
     given_here : IsGiven t.cluster t.planned_at targets r n
-    given_here = is_given t targets carries sound orderly since k (Cell op.Promote r n i held) calm begins (record { leaf = r; node = n }) refl
+    given_here = is_given t targets carries sound orderly since k (Operation op.Promote r n i held) calm begins (record { leaf = r; node = n }) refl
 
     promoted_here : is_promoted_target (targets r n) ≡ true
     promoted_here =
-        promoted_gives t.cluster t.planned_at targets r n (Cell op.Promote r n i held) (carries.needed k _ begins.action) (own_cell r n)
+        promoted_gives t.cluster t.planned_at targets r n (Operation op.Promote r n i held) (carries.needed k _ begins.action) (own_cell r n)
 
-    done : (x : Action) → Must t x (Cell op.Promote r n i held) → Done t since x
-    done x must = succeeded t targets carries since k x (Cell op.Promote r n i held) begins must
+    done : (x : Action) → Must t x (Operation op.Promote r n i held) → Done t since x
+    done x must = succeeded t targets carries since k x (Operation op.Promote r n i held) begins must
 
     targeted : (m : ℕ) → m < length t.cluster.nodes → may_be_promoted t.cluster r m (journal t since) ≡ true → is_promoted_target (targets r m) ≡ true
     targeted m low up = true_from_ne_false (is_promoted_target (targets r m)) never
@@ -58,12 +58,12 @@ module _ (t : Transition) (targets : Targets) (carries : Carries t targets) (sou
         never : is_promoted_target (targets r m) ≡ false → ⊥
         never e =
             let first = before_promote t targets carries sound orderly r n i held m in
-            let demoted = by_demote t (Cell op.Demote r m 0 role.Started) (Cell op.Promote r n i held) (rw (number_itself r) refl) in
+            let demoted = by_demote t (Operation op.Demote r m 0 role.Started) (Operation op.Promote r n i held) (rw (number_itself r) refl) in
             both_ways (is_left_promoted t.cluster r m (journal t since))
             (elsewhere_down t targets carries r m e since calm given_here.leaf low given_here.free orderly
-            (inr (is_able t targets carries sound orderly since k (Cell op.Promote r n i held) calm begins (record { leaf = r; node = n }) refl))
-            (sound.promotable r n given_here.leaf given_here.node promoted_here) (done (Probe r m) first.probed) (done (Cell op.Stop r m 0 role.Started) first.stopped)
-            (done (Cell op.Demote r m 0 role.Started) demoted) (done (Fence m) first.fenced))
+            (inr (is_able t targets carries sound orderly since k (Operation op.Promote r n i held) calm begins (record { leaf = r; node = n }) refl))
+            (sound.promotable r n given_here.leaf given_here.node promoted_here) (done (Probe r m) first.probed) (done (Operation op.Stop r m 0 role.Started) first.stopped)
+            (done (Operation op.Demote r m 0 role.Started) demoted) (done (Fence m) first.fenced))
             (later (is_promotable t.cluster r) _ up)
 
     adds_no_promoted : AddsNoPromoted t since (record { leaf = r; node = n })
@@ -75,11 +75,11 @@ module _ (t : Transition) (targets : Targets) (carries : Carries t targets) (sou
         omega (arith, counted, capped, within)
 
   no_promotion : (since : List Event) (k : ℕ) (a : Action) → Calm t since → Begins t since k a → IfSome (op_cell op.Promote a) (AddsNoPromoted t since)
-  no_promotion since k (Cell op.Promote r n i held) calm begins = adds_no_promoted since k r n i held calm begins
-  no_promotion since k (Cell op.Start r n i held) calm begins = tt
-  no_promotion since k (Cell op.Stop r n i held) calm begins = tt
-  no_promotion since k (Cell op.Demote r n i held) calm begins = tt
-  no_promotion since k (Cell op.Monitor r n i held) calm begins = tt
+  no_promotion since k (Operation op.Promote r n i held) calm begins = adds_no_promoted since k r n i held calm begins
+  no_promotion since k (Operation op.Start r n i held) calm begins = tt
+  no_promotion since k (Operation op.Stop r n i held) calm begins = tt
+  no_promotion since k (Operation op.Demote r n i held) calm begins = tt
+  no_promotion since k (Operation op.Monitor r n i held) calm begins = tt
   no_promotion since k (Fence n) calm begins = tt
   no_promotion since k (Probe r n) calm begins = tt
   no_promotion since k (MigrateTo r n m) calm begins = tt

@@ -5,7 +5,7 @@ use Rattle.std.specs.List.{list_all}
 use Rattle.std.proofs.lemmas.Bool.{not-true}
 use Rattle.lemmas.proofs.Booleans.{sooner, later}
 use Rattle.lemmas.proofs.Searches.{each_passes}
-use Rattle.cluster_types.specs.declared.journal.Action.TheVariants.{Cell}
+use Rattle.cluster_types.specs.declared.journal.Action.TheVariants.{Operation}
 use Rattle.cluster_types.specs.declared.leaf.Op.TheVariants as op
 use Rattle.cluster_types.specs.declared.leaf.Role.TheVariants as role
 use Rattle.cluster_types.specs.declared.placement.Target.{Target}
@@ -75,7 +75,7 @@ module _ (t : Transition) (targets : Targets) (carries : Carries t targets) (sou
     (online : is_online t.cluster n t.planned_at ≡ true) (somewhere : is_somewhere (targets r n) ≡ true) where
   -- how the leaf comes to run there
   pub data How : Type 0 where
-    by_start : IsNeeded t targets (Cell op.Start r n 0 role.Started) → How
+    by_start : IsNeeded t targets (Operation op.Start r n 0 role.Started) → How
     by_taking : MigratesHere t targets carries r n → How
     stays : may_be_running t.cluster r n t.planned_at ≡ true → is_unprobed_state (state t r n) ≡ false → (GetsStop t targets carries r n → ⊥)
         → (is_pinned t.cluster t.planned_at r ≡ true) ⊎ (runs (state t r n) ≡ true) → How
@@ -98,7 +98,7 @@ module _ (t : Transition) (targets : Targets) (carries : Carries t targets) (sou
         by (start_or_migration t targets carries r n h l
         (inr (uncycled_idle t targets r n still, start_of_idle (is_pinned t.cluster t.planned_at r) (state t r n) (targets r n) free is somewhere)))
       where
-        by : IsNeeded t targets (Cell op.Start r n 0 role.Started) ⊎ MigratesHere t targets carries r n → How
+        by : IsNeeded t targets (Operation op.Start r n 0 role.Started) ⊎ MigratesHere t targets carries r n → How
         by (inl needed) = by_start needed
         by (inr here) = by_taking here
 
@@ -108,7 +108,7 @@ module _ (t : Transition) (targets : Targets) (carries : Carries t targets) (sou
         on : may_be_running t.cluster r n t.planned_at ≡ true
         on = running_may t targets carries r n may_be
 
-        start : IsNeeded t targets (Cell op.Start r n 0 role.Started) ⊎ MigratesHere t targets carries r n → How
+        start : IsNeeded t targets (Operation op.Start r n 0 role.Started) ⊎ MigratesHere t targets carries r n → How
         start (inl needed) = by_start needed
         start (inr here) = not_both here on
 

@@ -3,7 +3,7 @@ use Rattle.std.proofs.Common.{inl, inr, ◌⊎◌, ◌≡◌, ◌<◌, ◌≤◌
 use Rattle.std.specs.Prelude.{Some}
 use Rattle.lemmas.proofs.Booleans.{number_itself}
 use Rattle.cluster_types.specs.declared.journal.Action.{Action}
-use Rattle.cluster_types.specs.declared.journal.Action.TheVariants.{Fence, Probe, Cell, MigrateTo, MigrateFrom}
+use Rattle.cluster_types.specs.declared.journal.Action.TheVariants.{Fence, Probe, Operation, MigrateTo, MigrateFrom}
 use Rattle.cluster_types.specs.declared.journal.Event.{Event}
 use Rattle.cluster_types.specs.declared.journal.Event.TheVariants.{Ended}
 use Rattle.cluster_types.specs.declared.leaf.Op.TheVariants as op
@@ -59,7 +59,7 @@ module _ (t : Transition) (targets : Targets) (carries : Carries t targets) (sou
         by false e = still e
         by true e = takes (takes_needs t targets carries r n online y (carries.needed j y is) e)
 
-    started : IsNeeded t targets (Cell op.Start r n 0 role.Started) → IsOn (journal t since)
+    started : IsNeeded t targets (Operation op.Start r n 0 role.Started) → IsOn (journal t since)
     started needed =
         turned t IsOn number.number x number.is (λ es o m ok. on_turned t.cluster r n es number.number m x o (rw (number_itself r) (rw (number_itself n) refl)))
         (λ es j y is on. inr (on_begun t.cluster r n es j y on))
@@ -68,19 +68,19 @@ module _ (t : Transition) (targets : Targets) (carries : Carries t targets) (sou
         (λ es s on. on_waited t.cluster r n es s on) since calm (done x number)
       where
         x : Action
-        x = Cell op.Start r n 0 role.Started
+        x = Operation op.Start r n 0 role.Started
 
-        number : HasNumber t (Cell op.Start r n 0 role.Started)
-        number = carries.numbered (Cell op.Start r n 0 role.Started) needed
+        number : HasNumber t (Operation op.Start r n 0 role.Started)
+        number = carries.numbered (Operation op.Start r n 0 role.Started) needed
 
-        precedes : (j : ℕ) (y z : Action) → action_at t j ≡ Some y → y ≡ z → Must t z (Cell op.Start r n 0 role.Started) → t.precedes j number.number ≡ true
-        precedes j y z is same must = carries.precede j number.number z (Cell op.Start r n 0 role.Started) (subst (λ w. action_at t j ≡ Some w) same is) number.is must
+        precedes : (j : ℕ) (y z : Action) → action_at t j ≡ Some y → y ≡ z → Must t z (Operation op.Start r n 0 role.Started) → t.precedes j number.number ≡ true
+        precedes j y z is same must = carries.precede j number.number z (Operation op.Start r n 0 role.Started) (subst (λ w. action_at t j ≡ Some w) same is) number.is must
 
         first : (j : ℕ) (y : Action) → action_at t j ≡ Some y → Takes t targets carries r n y → t.precedes j number.number ≡ true
-        first j y is (is_probe same u) = precedes j y (Probe r n) is same (by_probe t (Probe r n) (Cell op.Start r n 0 role.Started) (number_itself r))
+        first j y is (is_probe same u) = precedes j y (Probe r n) is same (by_probe t (Probe r n) (Operation op.Start r n 0 role.Started) (number_itself r))
         first j y is (is_stop same g) =
-            precedes j y (Cell op.Stop r n 0 role.Started) is same
-            (by_stop t (Cell op.Stop r n 0 role.Started) (Cell op.Start r n 0 role.Started) (rw (number_itself r) (rw (number_itself n) refl)))
+            precedes j y (Operation op.Stop r n 0 role.Started) is same
+            (by_stop t (Operation op.Stop r n 0 role.Started) (Operation op.Start r n 0 role.Started) (rw (number_itself r) (rw (number_itself n) refl)))
 
     taken_there : MigratesHere t targets carries r n → IsOn (journal t since)
     taken_there here =
@@ -124,4 +124,4 @@ module _ (t : Transition) (targets : Targets) (carries : Carries t targets) (sou
       where
         by : (b : Bool) → is_somewhere (targets r n) ≡ b → may_be_running t.cluster r n (journal t since) ≡ is_somewhere (targets r n)
         by true e = rw e (on_where_targeted e)
-        by false e = rw e (runs_not t targets carries sound orderly since calm r n h l online (done (Probe r n)) (done (Cell op.Stop r n 0 role.Started)) (done (Fence n)) e)
+        by false e = rw e (runs_not t targets carries sound orderly since calm r n h l online (done (Probe r n)) (done (Operation op.Stop r n 0 role.Started)) (done (Fence n)) e)

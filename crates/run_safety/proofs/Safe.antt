@@ -1,7 +1,7 @@
 -- The promises of a transition of a plan, together.
 use Rattle.std.proofs.Common.{arith, ◌≡◌, ◌≢◌, ◌<◌, ℕ, Bool, false, List, [], ◌∷◌, ◌++◌, length}
 use Rattle.std.specs.Prelude.{Option}
-use Rattle.cluster_types.specs.declared.journal.Action.TheVariants.{Cell}
+use Rattle.cluster_types.specs.declared.journal.Action.TheVariants.{Operation}
 use Rattle.cluster_types.specs.declared.journal.Answer.{Answer}
 use Rattle.cluster_types.specs.declared.journal.Event.{Event}
 use Rattle.cluster_types.specs.declared.journal.Event.TheVariants.{Begin}
@@ -77,17 +77,17 @@ module _ (promotions : List Promotion) (placed : Placed) (t : Transition) (of : 
 
   -- where a leaf that has one copy is started, it may run on no other node; and where one of a single promoted copy is promoted, it may be so on none
   module _ (before after : List Event) (k r n i m : ℕ) (held : Role) (low : m < length t.cluster.nodes) (other : m ≢ n) where
-    pub is_only_copy : later ≡ before ++ Begin k (Cell op.Start r n i held) ∷ after → is_cloned t.cluster r ≡ false → may_be_running t.cluster r m (journal t before) ≡ false
+    pub is_only_copy : later ≡ before ++ Begin k (Operation op.Start r n i held) ∷ after → is_cloned t.cluster r ≡ false → may_be_running t.cluster r m (journal t before) ≡ false
     is_only_copy split plain =
-        let own = begins-its_own t whole rest left later goes before after k (Cell op.Start r n i held) split in
-        let within = bounds_of_cell t.cluster t.planned_at targets op.Start r n i held (carries.needed k (Cell op.Start r n i held) own) in
-        let few : count_of_others t.cluster n (λ m. may_be_running t.cluster r m (journal t before)) < copies t.cluster r = (adds_no_copy before after k (Cell op.Start r n i held) split).0 in
+        let own = begins-its_own t whole rest left later goes before after k (Operation op.Start r n i held) split in
+        let within = bounds_of_cell t.cluster t.planned_at targets op.Start r n i held (carries.needed k (Operation op.Start r n i held) own) in
+        let few : count_of_others t.cluster n (λ m. may_be_running t.cluster r m (journal t before)) < copies t.cluster r = (adds_no_copy before after k (Operation op.Start r n i held) split).0 in
         let one = one_copy t.cluster r of.valid within.0 plain in
         none_elsewhere (λ m. may_be_running t.cluster r m (journal t before)) n m (length t.cluster.nodes) (omega (arith, few, one)) low other
 
-    pub is_only_promoted : later ≡ before ++ Begin k (Cell op.Promote r n i held) ∷ after → promoted_copies t.cluster r ≡ 1
+    pub is_only_promoted : later ≡ before ++ Begin k (Operation op.Promote r n i held) ∷ after → promoted_copies t.cluster r ≡ 1
         → may_be_promoted t.cluster r m (journal t before) ≡ false
     is_only_promoted split one =
         let few : count_of_others t.cluster n (λ m. may_be_promoted t.cluster r m (journal t before)) < promoted_copies t.cluster r =
-        adds_no_promotion before after k (Cell op.Promote r n i held) split in
+        adds_no_promotion before after k (Operation op.Promote r n i held) split in
         none_elsewhere (λ m. may_be_promoted t.cluster r m (journal t before)) n m (length t.cluster.nodes) (omega (arith, few, one)) low other

@@ -5,7 +5,7 @@ use Rattle.std.specs.Option.{option_map_or}
 use Rattle.std.proofs.lemmas.Bool.{and_from}
 use Rattle.lemmas.proofs.Booleans.{number_itself}
 use Rattle.cluster_types.specs.declared.journal.Action.{Action}
-use Rattle.cluster_types.specs.declared.journal.Action.TheVariants.{Cell, MigrateTo, MigrateFrom}
+use Rattle.cluster_types.specs.declared.journal.Action.TheVariants.{Operation, MigrateTo, MigrateFrom}
 use Rattle.cluster_types.specs.declared.journal.Event.{Event}
 use Rattle.cluster_types.specs.declared.journal.Event.TheVariants.{Begin, Ended}
 use Rattle.cluster_types.specs.declared.leaf.Op.{Op}
@@ -50,14 +50,14 @@ module _ (t : Transition) (targets : Targets) (carries : Carries t targets) (sou
     plain : {R : Type 0} → is_promotable t.cluster r ≡ true → R
     plain h = refuse (is_promotable t.cluster r) g.plain h
 
-    step_comes : (s m : ℕ) (o : Op) → IsStep t.cluster t.planned_at targets s m o → Needed t.cluster t.planned_at targets (Cell o s m 0 role.Started)
-        → (Cell o s m 0 role.Started ≡ Cell op.Start r to 0 role.Started → ⊥) → gives_run r to (Cell o s m 0 role.Started) ≡ true → Comes (Cell o s m 0 role.Started)
+    step_comes : (s m : ℕ) (o : Op) → IsStep t.cluster t.planned_at targets s m o → Needed t.cluster t.planned_at targets (Operation o s m 0 role.Started)
+        → (Operation o s m 0 role.Started ≡ Operation op.Start r to 0 role.Started → ⊥) → gives_run r to (Operation o s m 0 role.Started) ≡ true → Comes (Operation o s m 0 role.Started)
     step_comes s m op.Start is needs other h =
         let same = one_cell r to s m h in
         let leaf : s ≡ r = same.0 in
         let node : m ≡ to = same.1 in
-        absurd (other (subst (λ z. Cell op.Start z m 0 role.Started ≡ Cell op.Start r to 0 role.Started) (sym leaf) (ap (λ z. Cell op.Start r z 0 role.Started) node)))
-    step_comes s m op.Promote is needs other h = plain (sound.promotable r to there.leaf there.node (promoted_gives t.cluster t.planned_at targets r to (Cell op.Promote s m 0 role.Started) needs h))
+        absurd (other (subst (λ z. Operation op.Start z m 0 role.Started ≡ Operation op.Start r to 0 role.Started) (sym leaf) (ap (λ z. Operation op.Start r z 0 role.Started) node)))
+    step_comes s m op.Promote is needs other h = plain (sound.promotable r to there.leaf there.node (promoted_gives t.cluster t.planned_at targets r to (Operation op.Promote s m 0 role.Started) needs h))
     step_comes s m op.Demote is needs other h =
         let same = one_cell r to s m h in
         let promoted : is_promoted_state (state t r to) ≡ true =
@@ -66,7 +66,7 @@ module _ (t : Transition) (targets : Targets) (carries : Carries t targets) (sou
     step_comes s m op.Stop is needs other h = absurd (let f : ⊥ = cc in f)
     step_comes s m op.Monitor is needs other h = let none = is.fitting in absurd (let f : ⊥ = cc in f)
 
-    first_comes : (y : Action) → NeededBeforeMigration t.cluster t.planned_at targets y → Needed t.cluster t.planned_at targets y → (y ≡ Cell op.Start r to 0 role.Started → ⊥)
+    first_comes : (y : Action) → NeededBeforeMigration t.cluster t.planned_at targets y → Needed t.cluster t.planned_at targets y → (y ≡ Operation op.Start r to 0 role.Started → ⊥)
         → gives_run r to y ≡ true → Comes y
     first_comes _ (fence m l e) needs other h = absurd (let f : ⊥ = cc in f)
     first_comes _ (probe s m k l e) needs other h = absurd (let f : ⊥ = cc in f)
@@ -75,7 +75,7 @@ module _ (t : Transition) (targets : Targets) (carries : Carries t targets) (sou
         let same = one_cell r to s m h in
         let leaf : (r == s) ≡ true = subst (λ z. (z == s) ≡ true) same.0 (number_itself s) in
         let node : (m == to) ≡ true = subst (λ z. (m == z) ≡ true) same.1 (number_itself m) in
-        after_taking (by_migration t (MigrateFrom r n to) (Cell op.Monitor s m w.interval_ms w.role) (and_from (r == s) (m == to) leaf node))
+        after_taking (by_migration t (MigrateFrom r n to) (Operation op.Monitor s m w.interval_ms w.role) (and_from (r == s) (m == to) leaf node))
 
     -- a leaf that migrates does so from one node
     one_source : (from m : ℕ) → Migrates t.cluster t.planned_at targets r from m → from ≡ n

@@ -5,7 +5,7 @@ use Rattle.std.specs.List.{list_any}
 use Rattle.std.specs.Option.{option_map_or}
 use Rattle.cluster_types.specs.declared.cluster.Cluster.{Cluster}
 use Rattle.cluster_types.specs.declared.journal.Action.{Action}
-use Rattle.cluster_types.specs.declared.journal.Action.TheVariants.{Fence, Probe, Cell, MigrateTo, MigrateFrom}
+use Rattle.cluster_types.specs.declared.journal.Action.TheVariants.{Fence, Probe, Operation, MigrateTo, MigrateFrom}
 use Rattle.cluster_types.specs.declared.journal.Answer.{Answer}
 use Rattle.cluster_types.specs.declared.journal.Event.{Event}
 use Rattle.cluster_types.specs.declared.journal.Event.TheVariants.{Ended}
@@ -28,12 +28,12 @@ use Rattle.run_safety.proofs.Said.{says_something}
 expected : (a : Action) → is_code_among (expected_codes a) (Code (silent_code a)) ≡ true
 expected (Fence n) = refl
 expected (Probe r n) = refl
-expected (Cell Start r n interval role) = refl
-expected (Cell Stop r n interval role) = refl
-expected (Cell Promote r n interval role) = refl
-expected (Cell Demote r n interval role) = refl
-expected (Cell Monitor r n interval role.Started) = refl
-expected (Cell Monitor r n interval role.Promoted) = refl
+expected (Operation Start r n interval role) = refl
+expected (Operation Stop r n interval role) = refl
+expected (Operation Promote r n interval role) = refl
+expected (Operation Demote r n interval role) = refl
+expected (Operation Monitor r n interval role.Started) = refl
+expected (Operation Monitor r n interval role.Promoted) = refl
 expected (MigrateTo r source to) = refl
 expected (MigrateFrom r source to) = refl
 

@@ -4,7 +4,7 @@ use Rattle.std.specs.Prelude.{Some}
 use Rattle.std.proofs.lemmas.Bool.{false_from_ne_true, ne_eqb}
 use Rattle.lemmas.proofs.Booleans.{sooner}
 use Rattle.cluster_types.specs.declared.journal.Action.{Action}
-use Rattle.cluster_types.specs.declared.journal.Action.TheVariants.{Fence, Probe, Cell, MigrateTo, MigrateFrom}
+use Rattle.cluster_types.specs.declared.journal.Action.TheVariants.{Fence, Probe, Operation, MigrateTo, MigrateFrom}
 use Rattle.cluster_types.specs.declared.journal.Event.{Event}
 use Rattle.cluster_types.specs.declared.journal.Event.TheVariants.{Begin}
 use Rattle.cluster_types.specs.declared.leaf.Op.TheVariants as op
@@ -63,14 +63,14 @@ module _ (t : Transition) (targets : Targets) (carries : Carries t targets) (sou
     not_sent : (y : Action) → IsNeeded t targets y → is_sent_to r n y ≡ false
     not_sent y needs = false_from_ne_true (is_sent_to r n y) (λ e. none (migrates_here t targets carries r n y needs e))
 
-    sure_of_start : IsNeeded t targets (Cell op.Start r n 0 role.Started) → is_left_open t.cluster r n (journal t since) ≡ false
+    sure_of_start : IsNeeded t targets (Operation op.Start r n 0 role.Started) → is_left_open t.cluster r n (journal t since) ≡ false
     sure_of_start needed =
-        let number : HasNumber t (Cell op.Start r n 0 role.Started) = carries.numbered (Cell op.Start r n 0 role.Started) needed in
-        turned t (IsSure t.cluster r n) number.number (Cell op.Start r n 0 role.Started) number.is
-        (λ es o m ok. sure_turned t.cluster r n es number.number m (Cell op.Start r n 0 role.Started) o ok (own_cell r n) refl refl)
+        let number : HasNumber t (Operation op.Start r n 0 role.Started) = carries.numbered (Operation op.Start r n 0 role.Started) needed in
+        turned t (IsSure t.cluster r n) number.number (Operation op.Start r n 0 role.Started) number.is
+        (λ es o m ok. sure_turned t.cluster r n es number.number m (Operation op.Start r n 0 role.Started) o ok (own_cell r n) refl refl)
         (λ es j y is sure. inr (sure_begun t.cluster r n es j y (not_sent y (carries.needed j y is)) sure))
         (λ es j m y o is ok sure. inr (sure_done t.cluster r n es j m y o ok (stays_here y (carries.needed j y is)) sure))
-        (λ es s sure. sure_waited t.cluster r n es s sure) since calm (done t targets carries sound orderly since calm all (Cell op.Start r n 0 role.Started) number)
+        (λ es s sure. sure_waited t.cluster r n es s sure) since calm (done t targets carries sound orderly since calm all (Operation op.Start r n 0 role.Started) number)
 
     sure_of_staying : is_left_open t.cluster r n t.planned_at ≡ false → is_left_open t.cluster r n (journal t since) ≡ false
     sure_of_staying was =
@@ -79,10 +79,10 @@ module _ (t : Transition) (targets : Targets) (carries : Carries t targets) (sou
         (λ es s sure. sure_waited t.cluster r n es s sure) since calm was
 
   -- a start is needed only where no migration comes
-  not_started : IsNeeded t targets (Cell op.Start r n 0 role.Started) → MigratesHere t targets carries r n → ⊥
-  not_started needed here = of (Cell op.Start r n 0 role.Started) needed refl
+  not_started : IsNeeded t targets (Operation op.Start r n 0 role.Started) → MigratesHere t targets carries r n → ⊥
+  not_started needed here = of (Operation op.Start r n 0 role.Started) needed refl
     where
-      of : (y : Action) → IsNeeded t targets y → y ≡ Cell op.Start r n 0 role.Started → ⊥
+      of : (y : Action) → IsNeeded t targets y → y ≡ Operation op.Start r n 0 role.Started → ⊥
       of y (kept _ f others) e = others r here.from n here.migrates e
       of _ (sent s from m g) e = let f : ⊥ = cc in f
       of _ (taken_in s from m g) e = let f : ⊥ = cc in f
@@ -102,7 +102,7 @@ module _ (t : Transition) (targets : Targets) (carries : Carries t targets) (sou
       leads (MigrateTo s from m) e = by_migration t (MigrateTo s from m) (MigrateFrom r here.from n) (sooner (s == r) (m == n) e)
       leads (Fence m) e = cc
       leads (Probe s m) e = cc
-      leads (Cell o s m i held) e = cc
+      leads (Operation o s m i held) e = cc
       leads (MigrateFrom s from m) e = cc
 
       begins : (es : List Event) (j : ℕ) (y : Action) → action_at t j ≡ Some y → IsSure t.cluster r n es → (b : Bool) → is_sent_to r n y ≡ b

@@ -4,7 +4,7 @@ use Rattle.std.specs.List.{list_any}
 use Rattle.std.proofs.lemmas.Bool.{and_from}
 use Rattle.lemmas.proofs.Booleans.{later, number_itself}
 use Rattle.cluster_types.specs.declared.journal.Action.{Action}
-use Rattle.cluster_types.specs.declared.journal.Action.TheVariants.{Probe, Cell, MigrateTo}
+use Rattle.cluster_types.specs.declared.journal.Action.TheVariants.{Probe, Operation, MigrateTo}
 use Rattle.cluster_types.specs.declared.leaf.Op.{Op}
 use Rattle.cluster_types.specs.declared.leaf.Op.TheVariants as op
 use Rattle.cluster_types.specs.declared.leaf.Role.TheVariants as role
@@ -36,14 +36,14 @@ module _ (t : Transition) (targets : Targets) (carries : Carries t targets) (r n
   -- on an online node it is the probe of the cell, or its stop
   pub data Takes (y : Action) : Type 0 where
     is_probe : y ≡ Probe r n → is_unprobed_state (state t r n) ≡ true → Takes y
-    is_stop : y ≡ Cell op.Stop r n 0 role.Started → GetsStop → Takes y
+    is_stop : y ≡ Operation op.Stop r n 0 role.Started → GetsStop → Takes y
 
-  step_takes : (s m : ℕ) (o : Op) → GetsStep t.cluster t.planned_at targets s m o → takes_run r n (Cell o s m 0 role.Started) ≡ true → Takes (Cell o s m 0 role.Started)
+  step_takes : (s m : ℕ) (o : Op) → GetsStep t.cluster t.planned_at targets s m o → takes_run r n (Operation o s m 0 role.Started) ≡ true → Takes (Operation o s m 0 role.Started)
   step_takes s m op.Stop g h =
       let same = one_cell r n s m h in
       let leaf : s ≡ r = same.0 in
       let node : m ≡ n = same.1 in
-      is_stop (subst (λ z. Cell op.Stop z m 0 role.Started ≡ Cell op.Stop r n 0 role.Started) (sym leaf) (ap (λ z. Cell op.Stop r z 0 role.Started) node))
+      is_stop (subst (λ z. Operation op.Stop z m 0 role.Started ≡ Operation op.Stop r n 0 role.Started) (sym leaf) (ap (λ z. Operation op.Stop r z 0 role.Started) node))
       (subst (λ z. GetsStep t.cluster t.planned_at targets z n op.Stop) leaf (subst (λ z. GetsStep t.cluster t.planned_at targets s z op.Stop) node g))
   step_takes s m op.Start g h = absurd (let f : ⊥ = cc in f)
   step_takes s m op.Promote g h = absurd (let f : ⊥ = cc in f)
@@ -104,15 +104,15 @@ module _ (t : Transition) (targets : Targets) (carries : Carries t targets) (r n
 
   -- a start is needed, or the leaf migrates to the cell
   pub start_or_migration : r < length t.cluster.leaves → n < length t.cluster.nodes → GetsStep t.cluster t.planned_at targets r n op.Start
-      → IsNeeded t targets (Cell op.Start r n 0 role.Started) ⊎ MigratesHere
+      → IsNeeded t targets (Operation op.Start r n 0 role.Started) ⊎ MigratesHere
   start_or_migration k l g = by (list_any (is_sent_to r n) t.actions) refl
     where
-      by : (b : Bool) → list_any (is_sent_to r n) t.actions ≡ b → IsNeeded t targets (Cell op.Start r n 0 role.Started) ⊎ MigratesHere
+      by : (b : Bool) → list_any (is_sent_to r n) t.actions ≡ b → IsNeeded t targets (Operation op.Start r n 0 role.Started) ⊎ MigratesHere
       by true e =
           let one = find_one (is_sent_to r n) t.actions e in
           inr (migrates_here one.action (carries.needed (one.place + 1) one.action (number_of t one.place one.action one.is)) one.passes)
       by false e =
-          inl (kept (Cell op.Start r n 0 role.Started) (step r n op.Start k l g) (λ s from m mig same.
+          inl (kept (Operation op.Start r n 0 role.Started) (step r n op.Start k l g) (λ s from m mig same.
           let leaf : r ≡ s = cc in
           let node : n ≡ m = cc in
           let number = carries.numbered (MigrateTo s from m) (sent s from m mig) in

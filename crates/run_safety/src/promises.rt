@@ -22,7 +22,7 @@ pub fn no_second_copy()
         → IsOfPlan promotions placed t → Goes t whole [] rest later left → NoSecondCopy t later }
     ensures plain { (promotions : List PromotionOf) (placed : PlacedOf) (t : Transition) (whole : Bool) (rest left : Option (List AnswerOf)) (later : List EventOf)
         (before after : List EventOf) (k r n interval m : ℕ) (held : RoleOf) → IsOfPlan promotions placed t → Goes t whole [] rest later left
-        → later ≡ before ++ event.Begin k (action.Cell op.Start r n interval held) ∷ after → is_cloned t.cluster r ≡ false
+        → later ≡ before ++ event.Begin k (action.Operation op.Start r n interval held) ∷ after → is_cloned t.cluster r ≡ false
         → m < length t.cluster.nodes → m ≢ n → may_be_running t.cluster r m (journal t before) ≡ false }
 {}
 
@@ -33,7 +33,7 @@ pub fn no_second_promotion()
         → IsOfPlan promotions placed t → Goes t whole [] rest later left → NoSecondPromotion t later }
     ensures single { (promotions : List PromotionOf) (placed : PlacedOf) (t : Transition) (whole : Bool) (rest left : Option (List AnswerOf)) (later : List EventOf)
         (before after : List EventOf) (k r n interval m : ℕ) (held : RoleOf) → IsOfPlan promotions placed t → Goes t whole [] rest later left
-        → later ≡ before ++ event.Begin k (action.Cell op.Promote r n interval held) ∷ after → promoted_copies t.cluster r ≡ 1
+        → later ≡ before ++ event.Begin k (action.Operation op.Promote r n interval held) ∷ after → promoted_copies t.cluster r ≡ 1
         → m < length t.cluster.nodes → m ≢ n → may_be_promoted t.cluster r m (journal t before) ≡ false }
 {}
 

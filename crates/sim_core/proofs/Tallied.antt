@@ -8,7 +8,7 @@ use Rattle.lemmas.proofs.Counts.{count-is}
 use Rattle.lemmas.proofs.Members.{all_append}
 use Rattle.cluster_types.specs.declared.cluster.Cluster.{Cluster}
 use Rattle.cluster_types.specs.declared.journal.Action.{Action}
-use Rattle.cluster_types.specs.declared.journal.Action.TheVariants.{Fence, Probe, Cell, MigrateTo, MigrateFrom}
+use Rattle.cluster_types.specs.declared.journal.Action.TheVariants.{Fence, Probe, Operation, MigrateTo, MigrateFrom}
 use Rattle.cluster_types.specs.declared.journal.Event.{Event}
 use Rattle.cluster_types.specs.declared.journal.Event.TheVariants as event
 use Rattle.cluster_types.specs.declared.journal.Outcome.{Outcome}
@@ -194,31 +194,31 @@ end_beside : (k : ℕ) (a : Action) (o : Outcome) (moment : ℕ) → AllByRecurs
 end_beside (suc k) a (Code code) moment = (tt, tt)
 end_beside zero (Fence n) (Code code) moment = (tt, tt)
 end_beside zero (Probe r n) (Code code) moment = (tt, tt)
-end_beside zero (Cell Start r n interval role) (Code code) moment = (tt, tt)
-end_beside zero (Cell Stop r n interval role) (Code code) moment = (tt, tt)
-end_beside zero (Cell Promote r n interval role) (Code code) moment = (tt, tt)
-end_beside zero (Cell Demote r n interval role) (Code code) moment = (tt, tt)
-end_beside zero (Cell Monitor r n interval role) (Code code) moment = (tt, tt)
+end_beside zero (Operation Start r n interval role) (Code code) moment = (tt, tt)
+end_beside zero (Operation Stop r n interval role) (Code code) moment = (tt, tt)
+end_beside zero (Operation Promote r n interval role) (Code code) moment = (tt, tt)
+end_beside zero (Operation Demote r n interval role) (Code code) moment = (tt, tt)
+end_beside zero (Operation Monitor r n interval role) (Code code) moment = (tt, tt)
 end_beside zero (MigrateTo r source to) (Code code) moment = (tt, tt)
 end_beside zero (MigrateFrom r source to) (Code code) moment = (tt, tt)
 end_beside (suc k) a TimedOut moment = (tt, tt)
 end_beside zero (Fence n) TimedOut moment = (tt, tt)
 end_beside zero (Probe r n) TimedOut moment = (tt, tt)
-end_beside zero (Cell Start r n interval role) TimedOut moment = (tt, tt)
-end_beside zero (Cell Stop r n interval role) TimedOut moment = (tt, tt)
-end_beside zero (Cell Promote r n interval role) TimedOut moment = (tt, tt)
-end_beside zero (Cell Demote r n interval role) TimedOut moment = (tt, tt)
-end_beside zero (Cell Monitor r n interval role) TimedOut moment = (tt, tt)
+end_beside zero (Operation Start r n interval role) TimedOut moment = (tt, tt)
+end_beside zero (Operation Stop r n interval role) TimedOut moment = (tt, tt)
+end_beside zero (Operation Promote r n interval role) TimedOut moment = (tt, tt)
+end_beside zero (Operation Demote r n interval role) TimedOut moment = (tt, tt)
+end_beside zero (Operation Monitor r n interval role) TimedOut moment = (tt, tt)
 end_beside zero (MigrateTo r source to) TimedOut moment = (tt, tt)
 end_beside zero (MigrateFrom r source to) TimedOut moment = (tt, tt)
 end_beside (suc k) a Gone moment = tt
 end_beside zero (Fence n) Gone moment = tt
 end_beside zero (Probe r n) Gone moment = tt
-end_beside zero (Cell Start r n interval role) Gone moment = tt
-end_beside zero (Cell Stop r n interval role) Gone moment = tt
-end_beside zero (Cell Promote r n interval role) Gone moment = tt
-end_beside zero (Cell Demote r n interval role) Gone moment = tt
-end_beside zero (Cell Monitor r n interval role) Gone moment = tt
+end_beside zero (Operation Start r n interval role) Gone moment = tt
+end_beside zero (Operation Stop r n interval role) Gone moment = tt
+end_beside zero (Operation Promote r n interval role) Gone moment = tt
+end_beside zero (Operation Demote r n interval role) Gone moment = tt
+end_beside zero (Operation Monitor r n interval role) Gone moment = tt
 end_beside zero (MigrateTo r source to) Gone moment = tt
 end_beside zero (MigrateFrom r source to) Gone moment = tt
 

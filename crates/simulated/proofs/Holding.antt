@@ -8,7 +8,7 @@ use Rattle.std.proofs.Math.Bool.{and-false}
 use Rattle.std.specs.Option.{option_map_or}
 use Rattle.cluster_types.specs.declared.cluster.Cluster.{Cluster}
 use Rattle.cluster_types.specs.declared.journal.Action.{Action}
-use Rattle.cluster_types.specs.declared.journal.Action.TheVariants.{Fence, Probe, Cell, MigrateTo, MigrateFrom}
+use Rattle.cluster_types.specs.declared.journal.Action.TheVariants.{Fence, Probe, Operation, MigrateTo, MigrateFrom}
 use Rattle.cluster_types.specs.declared.leaf.Op.{Op}
 use Rattle.cluster_types.specs.declared.leaf.Op.TheVariants.{Start, Stop, Promote, Demote, Monitor}
 use Rattle.cluster_types.specs.Fields.{is_promotable}
@@ -214,14 +214,14 @@ module _ (c : Cluster) (held : Cells) (r n : ℕ) where
   begun_rising (MigrateTo leaf source target) e = set_rising leaf target (is_there (found_at c held leaf source)) real.Started refl e
   begun_rising (Fence node) e = e
   begun_rising (Probe leaf node) e = e
-  begun_rising (Cell op leaf node interval role) e = e
+  begun_rising (Operation op leaf node interval role) e = e
   begun_rising (MigrateFrom leaf source target) e = e
 
   pub undone_rising : (a : Action) → undone c a held r n ≡ real.Rising → held r n ≡ real.Rising
   undone_rising (MigrateTo leaf source target) e = set_rising leaf target (is_there (found_at c held leaf source)) real.Off refl e
   undone_rising (Fence node) e = e
   undone_rising (Probe leaf node) e = e
-  undone_rising (Cell op leaf node interval role) e = e
+  undone_rising (Operation op leaf node interval role) e = e
   undone_rising (MigrateFrom leaf source target) e = e
 
   pub cleared_rising : (node : ℕ) → without_node node held r n ≡ real.Rising → held r n ≡ real.Rising
@@ -248,7 +248,7 @@ module _ (c : Cluster) (held : Cells) (r n : ℕ) where
   pub done_rising : (a : Action) → done c a held r n ≡ real.Rising → held r n ≡ real.Rising
   done_rising (Fence node) e = cleared_rising node e
   done_rising (Probe leaf node) e = e
-  done_rising (Cell op leaf node interval role) e = on (is_same_cell r n leaf node) e
+  done_rising (Operation op leaf node interval role) e = on (is_same_cell r n leaf node) e
     where
       on : (t : Bool) → (if t then after_op c op leaf (held r n) else held r n) ≡ real.Rising → held r n ≡ real.Rising
       on true i = op_rising op leaf (held r n) i

@@ -4,7 +4,7 @@ use Rattle.std.proofs.lemmas.Bool.{and_parts}
 use Rattle.std.proofs.Math.Bool.{and-false}
 use Rattle.cluster_types.specs.declared.cluster.Cluster.{Cluster}
 use Rattle.cluster_types.specs.declared.journal.Action.{Action}
-use Rattle.cluster_types.specs.declared.journal.Action.TheVariants.{Fence, Probe, Cell, MigrateTo, MigrateFrom}
+use Rattle.cluster_types.specs.declared.journal.Action.TheVariants.{Fence, Probe, Operation, MigrateTo, MigrateFrom}
 use Rattle.cluster_types.specs.declared.journal.Event.{Event}
 use Rattle.cluster_types.specs.declared.journal.Event.TheVariants.{Ended}
 use Rattle.cluster_types.specs.declared.journal.Outcome.{Outcome}
@@ -65,14 +65,14 @@ module _ (c : Cluster) (cells : Cells) (r n k m : ℕ) (cell : is_cell c r n ≡
     on false t h = inr (h, other t)
 
   promote_stays : (leaf node interval : ℕ) (role : Role) (o : Outcome)
-      → StaysPromoted (with_changed_cell leaf node (λ x. if is_promotable c leaf then real.Promoted else real.Started) cells r n) (Ended k (Cell Promote leaf node interval role) o m)
+      → StaysPromoted (with_changed_cell leaf node (λ x. if is_promotable c leaf then real.Promoted else real.Started) cells r n) (Ended k (Operation Promote leaf node interval role) o m)
   promote_stays leaf node interval role o = on (is_same_cell r n leaf node) refl where
     may : (t : Bool) → is_really_promoted (if t then real.Promoted else real.Started) ≡ true → t ≡ true
     may true h = refl
     may false h = cc
 
     on : (t : Bool) → is_same_cell r n leaf node ≡ t
-        → StaysPromoted (if t then (if is_promotable c leaf then real.Promoted else real.Started) else cells r n) (Ended k (Cell Promote leaf node interval role) o m)
+        → StaysPromoted (if t then (if is_promotable c leaf then real.Promoted else real.Started) else cells r n) (Ended k (Operation Promote leaf node interval role) o m)
     on true e h =
         let here : leaf ≡ r = eqb-true leaf r (and_parts (leaf == r) (node == n) e).0 in
         inl (rw (← here) (may (is_promotable c leaf) h), rw e refl)
@@ -101,9 +101,9 @@ module _ (c : Cluster) (cells : Cells) (r n k m : ℕ) (cell : is_cell c r n ≡
   probe_stays leaf node = look_stays leaf node (Ended k (Probe leaf node) (Code (looked (found_at c cells leaf node))) m) (λ t. rw t refl) (λ t q. rw (q.0, and-false (leaf == r && node == n)) refl)
 
   monitor_stays : (leaf node interval : ℕ) (role : Role)
-      → StaysPromoted (cells r n) (Ended k (Cell Monitor leaf node interval role) (Code (looked (found_at c cells leaf node))) m)
+      → StaysPromoted (cells r n) (Ended k (Operation Monitor leaf node interval role) (Code (looked (found_at c cells leaf node))) m)
   monitor_stays leaf node interval role =
-      look_stays leaf node (Ended k (Cell Monitor leaf node interval role) (Code (looked (found_at c cells leaf node))) m) (λ t. rw t refl) (λ t q. rw (q.1, and-false (leaf == r && node == n)) refl)
+      look_stays leaf node (Ended k (Operation Monitor leaf node interval role) (Code (looked (found_at c cells leaf node))) m) (λ t. rw t refl) (λ t q. rw (q.1, and-false (leaf == r && node == n)) refl)
 
   unchanged : (leaf node : ℕ) (change : Real → Real) (e : Event) → ((x : Real) → is_really_promoted (change x) ≡ is_really_promoted x) → StaysPromoted (cells r n) e
       → StaysPromoted (with_changed_cell leaf node change cells r n) e
@@ -115,39 +115,39 @@ module _ (c : Cluster) (cells : Cells) (r n k m : ℕ) (cell : is_cell c r n ≡
   pub true_stays : (a : Action) → StaysPromoted (done c a cells r n) (Ended k a (Code (true_code c a cells)) m)
   true_stays (Fence node) = fence_stays node (Code (true_code c (Fence node) cells))
   true_stays (Probe leaf node) = probe_stays leaf node
-  true_stays (Cell Start leaf node interval role) = ended_stays leaf node (after_op c Start leaf) (Ended k (Cell Start leaf node interval role) (Code (true_code c (Cell Start leaf node interval role) cells)) m) (λ x. refl) (λ t. rw t refl)
-  true_stays (Cell Stop leaf node interval role) = ended_stays leaf node (after_op c Stop leaf) (Ended k (Cell Stop leaf node interval role) (Code (true_code c (Cell Stop leaf node interval role) cells)) m) (λ x. refl) (λ t. rw t refl)
-  true_stays (Cell Promote leaf node interval role) = promote_stays leaf node interval role (Code (true_code c (Cell Promote leaf node interval role) cells))
-  true_stays (Cell Demote leaf node interval role) = ended_stays leaf node (after_op c Demote leaf) (Ended k (Cell Demote leaf node interval role) (Code (true_code c (Cell Demote leaf node interval role) cells)) m) none_demoted (λ t. rw t refl)
-  true_stays (Cell Monitor leaf node interval role) = unchanged leaf node (after_op c Monitor leaf) (Ended k (Cell Monitor leaf node interval role) (Code (true_code c (Cell Monitor leaf node interval role) cells)) m) (λ x. refl) (monitor_stays leaf node interval role)
+  true_stays (Operation Start leaf node interval role) = ended_stays leaf node (after_op c Start leaf) (Ended k (Operation Start leaf node interval role) (Code (true_code c (Operation Start leaf node interval role) cells)) m) (λ x. refl) (λ t. rw t refl)
+  true_stays (Operation Stop leaf node interval role) = ended_stays leaf node (after_op c Stop leaf) (Ended k (Operation Stop leaf node interval role) (Code (true_code c (Operation Stop leaf node interval role) cells)) m) (λ x. refl) (λ t. rw t refl)
+  true_stays (Operation Promote leaf node interval role) = promote_stays leaf node interval role (Code (true_code c (Operation Promote leaf node interval role) cells))
+  true_stays (Operation Demote leaf node interval role) = ended_stays leaf node (after_op c Demote leaf) (Ended k (Operation Demote leaf node interval role) (Code (true_code c (Operation Demote leaf node interval role) cells)) m) none_demoted (λ t. rw t refl)
+  true_stays (Operation Monitor leaf node interval role) = unchanged leaf node (after_op c Monitor leaf) (Ended k (Operation Monitor leaf node interval role) (Code (true_code c (Operation Monitor leaf node interval role) cells)) m) (λ x. refl) (monitor_stays leaf node interval role)
   true_stays (MigrateTo leaf source target) = emptied leaf source (is_there (found_at c cells leaf target)) (Ended k (MigrateTo leaf source target) (Code (true_code c (MigrateTo leaf source target) cells)) m) refl
   true_stays (MigrateFrom leaf source target) = λ h. inr (h, refl)
 
   pub bad_stays : (a : Action) → StaysPromoted (done c a cells r n) (Ended k a (Code 1) m)
   bad_stays (Fence node) = fence_stays node (Code 1)
   bad_stays (Probe leaf node) = quiet_stays (Probe leaf node) (Code 1) failed
-  bad_stays (Cell Start leaf node interval role) = ended_stays leaf node (after_op c Start leaf) (Ended k (Cell Start leaf node interval role) (Code 1) m) (λ x. refl) (λ t. rw t refl)
-  bad_stays (Cell Stop leaf node interval role) = ended_stays leaf node (after_op c Stop leaf) (Ended k (Cell Stop leaf node interval role) (Code 1) m) (λ x. refl) (λ t. rw t refl)
-  bad_stays (Cell Promote leaf node interval role) = promote_stays leaf node interval role (Code 1)
-  bad_stays (Cell Demote leaf node interval role) = ended_stays leaf node (after_op c Demote leaf) (Ended k (Cell Demote leaf node interval role) (Code 1) m) none_demoted (λ t. rw t refl)
-  bad_stays (Cell Monitor leaf node interval role) = unchanged leaf node (after_op c Monitor leaf) (Ended k (Cell Monitor leaf node interval role) (Code 1) m) (λ x. refl) (quiet_stays (Cell Monitor leaf node interval role) (Code 1) failed)
+  bad_stays (Operation Start leaf node interval role) = ended_stays leaf node (after_op c Start leaf) (Ended k (Operation Start leaf node interval role) (Code 1) m) (λ x. refl) (λ t. rw t refl)
+  bad_stays (Operation Stop leaf node interval role) = ended_stays leaf node (after_op c Stop leaf) (Ended k (Operation Stop leaf node interval role) (Code 1) m) (λ x. refl) (λ t. rw t refl)
+  bad_stays (Operation Promote leaf node interval role) = promote_stays leaf node interval role (Code 1)
+  bad_stays (Operation Demote leaf node interval role) = ended_stays leaf node (after_op c Demote leaf) (Ended k (Operation Demote leaf node interval role) (Code 1) m) none_demoted (λ t. rw t refl)
+  bad_stays (Operation Monitor leaf node interval role) = unchanged leaf node (after_op c Monitor leaf) (Ended k (Operation Monitor leaf node interval role) (Code 1) m) (λ x. refl) (quiet_stays (Operation Monitor leaf node interval role) (Code 1) failed)
   bad_stays (MigrateTo leaf source target) = emptied leaf source (is_there (found_at c cells leaf target)) (Ended k (MigrateTo leaf source target) (Code 1) m) refl
   bad_stays (MigrateFrom leaf source target) = quiet_stays (MigrateFrom leaf source target) (Code 1) failed
 
   pub undone_stays : (a : Action) → StaysPromoted (undone c a cells r n) (Ended k a (Code 1) m)
   undone_stays (Fence node) = quiet_stays (Fence node) (Code 1) failed
   undone_stays (Probe leaf node) = quiet_stays (Probe leaf node) (Code 1) failed
-  undone_stays (Cell op leaf node interval role) = quiet_stays (Cell op leaf node interval role) (Code 1) failed
+  undone_stays (Operation op leaf node interval role) = quiet_stays (Operation op leaf node interval role) (Code 1) failed
   undone_stays (MigrateTo leaf source target) = emptied leaf target (is_there (found_at c cells leaf source)) (Ended k (MigrateTo leaf source target) (Code 1) m) refl
   undone_stays (MigrateFrom leaf source target) = quiet_stays (MigrateFrom leaf source target) (Code 1) failed
 
   pub late_stays : (a : Action) → StaysPromoted (given_up c a cells r n) (Ended k a TimedOut m)
   late_stays (Fence node) = quiet_stays (Fence node) TimedOut late
   late_stays (Probe leaf node) = quiet_stays (Probe leaf node) TimedOut late
-  late_stays (Cell Start leaf node interval role) = unchanged leaf node rising_from (Ended k (Cell Start leaf node interval role) TimedOut m) as_before (quiet_stays (Cell Start leaf node interval role) TimedOut late)
-  late_stays (Cell Stop leaf node interval role) = quiet_stays (Cell Stop leaf node interval role) TimedOut late
-  late_stays (Cell Promote leaf node interval role) = quiet_stays (Cell Promote leaf node interval role) TimedOut late
-  late_stays (Cell Demote leaf node interval role) = quiet_stays (Cell Demote leaf node interval role) TimedOut late
-  late_stays (Cell Monitor leaf node interval role) = quiet_stays (Cell Monitor leaf node interval role) TimedOut late
+  late_stays (Operation Start leaf node interval role) = unchanged leaf node rising_from (Ended k (Operation Start leaf node interval role) TimedOut m) as_before (quiet_stays (Operation Start leaf node interval role) TimedOut late)
+  late_stays (Operation Stop leaf node interval role) = quiet_stays (Operation Stop leaf node interval role) TimedOut late
+  late_stays (Operation Promote leaf node interval role) = quiet_stays (Operation Promote leaf node interval role) TimedOut late
+  late_stays (Operation Demote leaf node interval role) = quiet_stays (Operation Demote leaf node interval role) TimedOut late
+  late_stays (Operation Monitor leaf node interval role) = quiet_stays (Operation Monitor leaf node interval role) TimedOut late
   late_stays (MigrateTo leaf source target) = emptied leaf target (is_there (found_at c cells leaf source)) (Ended k (MigrateTo leaf source target) TimedOut m) refl
   late_stays (MigrateFrom leaf source target) = quiet_stays (MigrateFrom leaf source target) TimedOut late

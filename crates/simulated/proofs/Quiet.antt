@@ -3,7 +3,7 @@ use Rattle.std.proofs.Common.{◌≡◌, ℕ, ◌==◌, ◌&&◌, false, [], ◌
 use Rattle.std.proofs.Math.Bool.{and-false}
 use Rattle.cluster_types.specs.declared.cluster.Cluster.{Cluster}
 use Rattle.cluster_types.specs.declared.journal.Action.{Action}
-use Rattle.cluster_types.specs.declared.journal.Action.TheVariants.{Fence, Probe, Cell, MigrateTo, MigrateFrom}
+use Rattle.cluster_types.specs.declared.journal.Action.TheVariants.{Fence, Probe, Operation, MigrateTo, MigrateFrom}
 use Rattle.cluster_types.specs.declared.journal.Event.TheVariants.{Ended}
 use Rattle.cluster_types.specs.declared.journal.Outcome.{Outcome}
 use Rattle.cluster_types.specs.declared.journal.Outcome.TheVariants.{Code, TimedOut, Gone}
@@ -32,21 +32,21 @@ module _ (c : Cluster) (r n k m : ℕ) (o : Outcome) (q : IsQuiet o) where
   pub quiet_closes : (a : Action) → closes c r n (Ended k a o m) ≡ false
   quiet_closes (Fence node) = rw (q.no_success, and-false (node == n)) refl
   quiet_closes (Probe leaf node) = rw (q.no_absence, and-false (leaf == r && node == n)) refl
-  quiet_closes (Cell Stop leaf node interval role) = rw (q.no_success, and-false (leaf == r && node == n)) refl
-  quiet_closes (Cell Start leaf node interval role) = refl
-  quiet_closes (Cell Promote leaf node interval role) = refl
-  quiet_closes (Cell Demote leaf node interval role) = refl
-  quiet_closes (Cell Monitor leaf node interval role) = rw (q.no_stop, and-false (leaf == r && node == n)) refl
+  quiet_closes (Operation Stop leaf node interval role) = rw (q.no_success, and-false (leaf == r && node == n)) refl
+  quiet_closes (Operation Start leaf node interval role) = refl
+  quiet_closes (Operation Promote leaf node interval role) = refl
+  quiet_closes (Operation Demote leaf node interval role) = refl
+  quiet_closes (Operation Monitor leaf node interval role) = rw (q.no_stop, and-false (leaf == r && node == n)) refl
   quiet_closes (MigrateTo leaf source target) = refl
   quiet_closes (MigrateFrom leaf source target) = refl
 
   pub quiet_demotes : (a : Action) → closes_promoted c r n (Ended k a o m) ≡ false
   quiet_demotes (Fence node) = rw (q.no_success, and-false (node == n)) refl
   quiet_demotes (Probe leaf node) = rw (q.no_demotion, and-false (leaf == r && node == n)) refl
-  quiet_demotes (Cell Stop leaf node interval role) = rw (q.no_success, and-false (leaf == r && node == n)) refl
-  quiet_demotes (Cell Start leaf node interval role) = rw (q.no_success, and-false (leaf == r && node == n)) refl
-  quiet_demotes (Cell Promote leaf node interval role) = refl
-  quiet_demotes (Cell Demote leaf node interval role) = rw (q.no_success, and-false (leaf == r && node == n)) refl
-  quiet_demotes (Cell Monitor leaf node interval role) = rw (q.no_late_demotion, and-false (leaf == r && node == n)) refl
+  quiet_demotes (Operation Stop leaf node interval role) = rw (q.no_success, and-false (leaf == r && node == n)) refl
+  quiet_demotes (Operation Start leaf node interval role) = rw (q.no_success, and-false (leaf == r && node == n)) refl
+  quiet_demotes (Operation Promote leaf node interval role) = refl
+  quiet_demotes (Operation Demote leaf node interval role) = rw (q.no_success, and-false (leaf == r && node == n)) refl
+  quiet_demotes (Operation Monitor leaf node interval role) = rw (q.no_late_demotion, and-false (leaf == r && node == n)) refl
   quiet_demotes (MigrateTo leaf source target) = refl
   quiet_demotes (MigrateFrom leaf source target) = refl

@@ -4,7 +4,7 @@ use Rattle.std.proofs.lemmas.Bool.{and_parts}
 use Rattle.std.proofs.Math.Bool.{and-false}
 use Rattle.cluster_types.specs.declared.cluster.Cluster.{Cluster}
 use Rattle.cluster_types.specs.declared.journal.Action.{Action}
-use Rattle.cluster_types.specs.declared.journal.Action.TheVariants.{Fence, Probe, Cell, MigrateTo, MigrateFrom}
+use Rattle.cluster_types.specs.declared.journal.Action.TheVariants.{Fence, Probe, Operation, MigrateTo, MigrateFrom}
 use Rattle.cluster_types.specs.declared.journal.Event.{Event}
 use Rattle.cluster_types.specs.declared.journal.Event.TheVariants.{Ended}
 use Rattle.cluster_types.specs.declared.journal.Outcome.{Outcome}
@@ -52,30 +52,30 @@ module _ (c : Cluster) (cells : Cells) (r n k m : ℕ) (cell : is_cell c r n ≡
     on false e h = inr (h, rw e refl)
 
   start_stays : (leaf node interval : ℕ) (role : Role) (o : Outcome) (change : Real → Real)
-      → Stays (with_changed_cell leaf node change cells r n) (Ended k (Cell Start leaf node interval role) o m)
+      → Stays (with_changed_cell leaf node change cells r n) (Ended k (Operation Start leaf node interval role) o m)
   start_stays leaf node interval role o change = on (is_same_cell r n leaf node) refl where
-    on : (t : Bool) → is_same_cell r n leaf node ≡ t → Stays (if t then change (cells r n) else cells r n) (Ended k (Cell Start leaf node interval role) o m)
+    on : (t : Bool) → is_same_cell r n leaf node ≡ t → Stays (if t then change (cells r n) else cells r n) (Ended k (Operation Start leaf node interval role) o m)
     on true e h = inl (rw e refl)
     on false e h = inr (h, refl)
 
   promote_stays : (leaf node interval : ℕ) (role : Role) (o : Outcome) (change : Real → Real)
-      → Stays (with_changed_cell leaf node change cells r n) (Ended k (Cell Promote leaf node interval role) o m)
+      → Stays (with_changed_cell leaf node change cells r n) (Ended k (Operation Promote leaf node interval role) o m)
   promote_stays leaf node interval role o change = on (is_same_cell r n leaf node) refl where
-    on : (t : Bool) → is_same_cell r n leaf node ≡ t → Stays (if t then change (cells r n) else cells r n) (Ended k (Cell Promote leaf node interval role) o m)
+    on : (t : Bool) → is_same_cell r n leaf node ≡ t → Stays (if t then change (cells r n) else cells r n) (Ended k (Operation Promote leaf node interval role) o m)
     on true e h = inl (rw e refl)
     on false e h = inr (h, refl)
 
   demote_stays : (leaf node interval : ℕ) (role : Role) (o : Outcome) (change : Real → Real)
-      → Stays (with_changed_cell leaf node change cells r n) (Ended k (Cell Demote leaf node interval role) o m)
+      → Stays (with_changed_cell leaf node change cells r n) (Ended k (Operation Demote leaf node interval role) o m)
   demote_stays leaf node interval role o change = on (is_same_cell r n leaf node) refl where
-    on : (t : Bool) → is_same_cell r n leaf node ≡ t → Stays (if t then change (cells r n) else cells r n) (Ended k (Cell Demote leaf node interval role) o m)
+    on : (t : Bool) → is_same_cell r n leaf node ≡ t → Stays (if t then change (cells r n) else cells r n) (Ended k (Operation Demote leaf node interval role) o m)
     on true e h = inl (rw e refl)
     on false e h = inr (h, refl)
 
   stop_stays : (leaf node interval : ℕ) (role : Role) (o : Outcome)
-      → Stays (with_changed_cell leaf node (λ x. real.Off) cells r n) (Ended k (Cell Stop leaf node interval role) o m)
+      → Stays (with_changed_cell leaf node (λ x. real.Off) cells r n) (Ended k (Operation Stop leaf node interval role) o m)
   stop_stays leaf node interval role o = on (is_same_cell r n leaf node) refl where
-    on : (t : Bool) → is_same_cell r n leaf node ≡ t → Stays (if t then real.Off else cells r n) (Ended k (Cell Stop leaf node interval role) o m)
+    on : (t : Bool) → is_same_cell r n leaf node ≡ t → Stays (if t then real.Off else cells r n) (Ended k (Operation Stop leaf node interval role) o m)
     on true e h = cc
     on false e h = inr (h, rw e refl)
 
@@ -101,9 +101,9 @@ module _ (c : Cluster) (cells : Cells) (r n k m : ℕ) (cell : is_cell c r n ≡
   probe_stays leaf node = look_stays leaf node (Ended k (Probe leaf node) (Code (looked (found_at c cells leaf node))) m) (λ t. rw t refl) (λ t q. rw (q.0, and-false (leaf == r && node == n)) refl)
 
   monitor_stays : (leaf node interval : ℕ) (role : Role)
-      → Stays (cells r n) (Ended k (Cell Monitor leaf node interval role) (Code (looked (found_at c cells leaf node))) m)
+      → Stays (cells r n) (Ended k (Operation Monitor leaf node interval role) (Code (looked (found_at c cells leaf node))) m)
   monitor_stays leaf node interval role =
-      look_stays leaf node (Ended k (Cell Monitor leaf node interval role) (Code (looked (found_at c cells leaf node))) m) (λ t. rw t refl) (λ t q. rw (q.1, and-false (leaf == r && node == n)) refl)
+      look_stays leaf node (Ended k (Operation Monitor leaf node interval role) (Code (looked (found_at c cells leaf node))) m) (λ t. rw t refl) (λ t q. rw (q.1, and-false (leaf == r && node == n)) refl)
 
   unchanged : (leaf node : ℕ) (e : Event) → Stays (cells r n) e → Stays (with_changed_cell leaf node (λ x. x) cells r n) e
   unchanged leaf node e s = on (is_same_cell r n leaf node) where
@@ -115,39 +115,39 @@ module _ (c : Cluster) (cells : Cells) (r n k m : ℕ) (cell : is_cell c r n ≡
   pub true_stays : (a : Action) → Stays (done c a cells r n) (Ended k a (Code (true_code c a cells)) m)
   true_stays (Fence node) = fence_stays node (Code (true_code c (Fence node) cells))
   true_stays (Probe leaf node) = probe_stays leaf node
-  true_stays (Cell Start leaf node interval role) = start_stays leaf node interval role (Code (true_code c (Cell Start leaf node interval role) cells)) (after_op c Start leaf)
-  true_stays (Cell Stop leaf node interval role) = stop_stays leaf node interval role (Code (true_code c (Cell Stop leaf node interval role) cells))
-  true_stays (Cell Promote leaf node interval role) = promote_stays leaf node interval role (Code (true_code c (Cell Promote leaf node interval role) cells)) (after_op c Promote leaf)
-  true_stays (Cell Demote leaf node interval role) = demote_stays leaf node interval role (Code (true_code c (Cell Demote leaf node interval role) cells)) (after_op c Demote leaf)
-  true_stays (Cell Monitor leaf node interval role) = unchanged leaf node (Ended k (Cell Monitor leaf node interval role) (Code (true_code c (Cell Monitor leaf node interval role) cells)) m) (monitor_stays leaf node interval role)
+  true_stays (Operation Start leaf node interval role) = start_stays leaf node interval role (Code (true_code c (Operation Start leaf node interval role) cells)) (after_op c Start leaf)
+  true_stays (Operation Stop leaf node interval role) = stop_stays leaf node interval role (Code (true_code c (Operation Stop leaf node interval role) cells))
+  true_stays (Operation Promote leaf node interval role) = promote_stays leaf node interval role (Code (true_code c (Operation Promote leaf node interval role) cells)) (after_op c Promote leaf)
+  true_stays (Operation Demote leaf node interval role) = demote_stays leaf node interval role (Code (true_code c (Operation Demote leaf node interval role) cells)) (after_op c Demote leaf)
+  true_stays (Operation Monitor leaf node interval role) = unchanged leaf node (Ended k (Operation Monitor leaf node interval role) (Code (true_code c (Operation Monitor leaf node interval role) cells)) m) (monitor_stays leaf node interval role)
   true_stays (MigrateTo leaf source target) = emptied leaf source (is_there (found_at c cells leaf target)) (Ended k (MigrateTo leaf source target) (Code (true_code c (MigrateTo leaf source target) cells)) m) refl
   true_stays (MigrateFrom leaf source target) = harmless (MigrateFrom leaf source target) (Code (true_code c (MigrateFrom leaf source target) cells)) refl
 
   pub bad_stays : (a : Action) → Stays (done c a cells r n) (Ended k a (Code 1) m)
   bad_stays (Fence node) = fence_stays node (Code 1)
   bad_stays (Probe leaf node) = quiet_stays (Probe leaf node) (Code 1) failed
-  bad_stays (Cell Start leaf node interval role) = start_stays leaf node interval role (Code 1) (after_op c Start leaf)
-  bad_stays (Cell Stop leaf node interval role) = stop_stays leaf node interval role (Code 1)
-  bad_stays (Cell Promote leaf node interval role) = promote_stays leaf node interval role (Code 1) (after_op c Promote leaf)
-  bad_stays (Cell Demote leaf node interval role) = demote_stays leaf node interval role (Code 1) (after_op c Demote leaf)
-  bad_stays (Cell Monitor leaf node interval role) = unchanged leaf node (Ended k (Cell Monitor leaf node interval role) (Code 1) m) (quiet_stays (Cell Monitor leaf node interval role) (Code 1) failed)
+  bad_stays (Operation Start leaf node interval role) = start_stays leaf node interval role (Code 1) (after_op c Start leaf)
+  bad_stays (Operation Stop leaf node interval role) = stop_stays leaf node interval role (Code 1)
+  bad_stays (Operation Promote leaf node interval role) = promote_stays leaf node interval role (Code 1) (after_op c Promote leaf)
+  bad_stays (Operation Demote leaf node interval role) = demote_stays leaf node interval role (Code 1) (after_op c Demote leaf)
+  bad_stays (Operation Monitor leaf node interval role) = unchanged leaf node (Ended k (Operation Monitor leaf node interval role) (Code 1) m) (quiet_stays (Operation Monitor leaf node interval role) (Code 1) failed)
   bad_stays (MigrateTo leaf source target) = emptied leaf source (is_there (found_at c cells leaf target)) (Ended k (MigrateTo leaf source target) (Code 1) m) refl
   bad_stays (MigrateFrom leaf source target) = quiet_stays (MigrateFrom leaf source target) (Code 1) failed
 
   pub undone_stays : (a : Action) → Stays (undone c a cells r n) (Ended k a (Code 1) m)
   undone_stays (Fence node) = quiet_stays (Fence node) (Code 1) failed
   undone_stays (Probe leaf node) = quiet_stays (Probe leaf node) (Code 1) failed
-  undone_stays (Cell op leaf node interval role) = quiet_stays (Cell op leaf node interval role) (Code 1) failed
+  undone_stays (Operation op leaf node interval role) = quiet_stays (Operation op leaf node interval role) (Code 1) failed
   undone_stays (MigrateTo leaf source target) = emptied leaf target (is_there (found_at c cells leaf source)) (Ended k (MigrateTo leaf source target) (Code 1) m) refl
   undone_stays (MigrateFrom leaf source target) = quiet_stays (MigrateFrom leaf source target) (Code 1) failed
 
   pub late_stays : (a : Action) → Stays (given_up c a cells r n) (Ended k a TimedOut m)
   late_stays (Fence node) = quiet_stays (Fence node) TimedOut late
   late_stays (Probe leaf node) = quiet_stays (Probe leaf node) TimedOut late
-  late_stays (Cell Start leaf node interval role) = start_stays leaf node interval role TimedOut rising_from
-  late_stays (Cell Stop leaf node interval role) = quiet_stays (Cell Stop leaf node interval role) TimedOut late
-  late_stays (Cell Promote leaf node interval role) = quiet_stays (Cell Promote leaf node interval role) TimedOut late
-  late_stays (Cell Demote leaf node interval role) = quiet_stays (Cell Demote leaf node interval role) TimedOut late
-  late_stays (Cell Monitor leaf node interval role) = quiet_stays (Cell Monitor leaf node interval role) TimedOut late
+  late_stays (Operation Start leaf node interval role) = start_stays leaf node interval role TimedOut rising_from
+  late_stays (Operation Stop leaf node interval role) = quiet_stays (Operation Stop leaf node interval role) TimedOut late
+  late_stays (Operation Promote leaf node interval role) = quiet_stays (Operation Promote leaf node interval role) TimedOut late
+  late_stays (Operation Demote leaf node interval role) = quiet_stays (Operation Demote leaf node interval role) TimedOut late
+  late_stays (Operation Monitor leaf node interval role) = quiet_stays (Operation Monitor leaf node interval role) TimedOut late
   late_stays (MigrateTo leaf source target) = emptied leaf target (is_there (found_at c cells leaf source)) (Ended k (MigrateTo leaf source target) TimedOut m) refl
   late_stays (MigrateFrom leaf source target) = quiet_stays (MigrateFrom leaf source target) TimedOut late

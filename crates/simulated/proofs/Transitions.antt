@@ -4,7 +4,7 @@ use Rattle.std.specs.Prelude.{Option, Some, None, unwrap_or}
 use Rattle.std.specs.List.{flat_map, range_with_len}
 use Rattle.lemmas.proofs.Counts.{count-append, count-cons}
 use Rattle.cluster_types.specs.declared.cluster.Cluster.{Cluster}
-use Rattle.cluster_types.specs.declared.journal.Action.TheVariants.{Cell}
+use Rattle.cluster_types.specs.declared.journal.Action.TheVariants.{Operation}
 use Rattle.cluster_types.specs.declared.journal.Answer.{Answer}
 use Rattle.cluster_types.specs.declared.journal.Event.{Event}
 use Rattle.cluster_types.specs.declared.journal.Event.TheVariants.{Begin, Ended}
@@ -39,7 +39,7 @@ flat_none f none (x ∷ xs) =
 
 event_none : (e : Event) → transitions (event_lines e) ≡ 0
 event_none (Begin k a) = refl
-event_none (Ended zero (Cell Monitor r n interval role) (Code code) moment) = refl
+event_none (Ended zero (Operation Monitor r n interval role) (Code code) moment) = refl
 event_none (Ended k a (Code code) moment) = refl
 event_none (Ended k a TimedOut moment) = refl
 event_none (Ended k a Gone moment) = refl

@@ -9,7 +9,7 @@ use Rattle.std.proofs.Math.Bool.{and-false, or-true}
 use Rattle.lemmas.proofs.Ordered.{first_earlier, rest_in_order}
 use Rattle.cluster_types.specs.declared.cluster.Cluster.{Cluster}
 use Rattle.cluster_types.specs.declared.journal.Action.{Action}
-use Rattle.cluster_types.specs.declared.journal.Action.TheVariants.{Fence, Probe, Cell, MigrateTo, MigrateFrom}
+use Rattle.cluster_types.specs.declared.journal.Action.TheVariants.{Fence, Probe, Operation, MigrateTo, MigrateFrom}
 use Rattle.cluster_types.specs.declared.journal.Event.{Event}
 use Rattle.cluster_types.specs.declared.journal.Event.TheVariants.{Up, Lost, Begin, Ended}
 use Rattle.cluster_types.specs.declared.journal.Outcome.{Outcome}
@@ -45,7 +45,7 @@ unsigned n es e s = ap (last_or None) (filter_map-append (sign_of n) es (e ∷ [
 quiet_sign : (n k m : ℕ) (o : Outcome) → IsQuiet o → (a : Action) → sign_of n (Ended k a o m) ≡ None
 quiet_sign n k m o q (Fence node) = rw (q.no_success, and-false (node == n)) refl
 quiet_sign n k m o q (Probe leaf node) = refl
-quiet_sign n k m o q (Cell op leaf node interval role) = refl
+quiet_sign n k m o q (Operation op leaf node interval role) = refl
 quiet_sign n k m o q (MigrateTo leaf source target) = refl
 quiet_sign n k m o q (MigrateFrom leaf source target) = refl
 
@@ -162,7 +162,7 @@ module _ (c : Cluster) where
         runs r n (MigrateTo leaf source target) h = sent r n leaf source target (is_there (found_at c w.cells leaf source)) (is_same_cell r n leaf target) refl h
         runs r n (Fence node) h = inr (h, refl)
         runs r n (Probe leaf node) h = inr (h, refl)
-        runs r n (Cell op leaf node interval role) h = inr (h, refl)
+        runs r n (Operation op leaf node interval role) h = inr (h, refl)
         runs r n (MigrateFrom leaf source target) h = inr (h, refl)
 
         kept : (r n leaf target : ℕ) (some same : Bool) → is_same_cell r n leaf target ≡ same
@@ -177,7 +177,7 @@ module _ (c : Cluster) where
             inr (kept r n leaf target (is_there (found_at c w.cells leaf source)) (is_same_cell r n leaf target) refl h, refl)
         promoted r n (Fence node) h = inr (h, refl)
         promoted r n (Probe leaf node) h = inr (h, refl)
-        promoted r n (Cell op leaf node interval role) h = inr (h, refl)
+        promoted r n (Operation op leaf node interval role) h = inr (h, refl)
         promoted r n (MigrateFrom leaf source target) h = inr (h, refl)
 
     -- an action ends
@@ -194,9 +194,9 @@ module _ (c : Cluster) where
         on true e = ap (standing_by c) (sym (signed n es (Ended k (Fence node) (Code 0) m) was_fenced (rw e refl)))
         on false e = within.stands n ∙ ap (standing_by c) (sym (unsigned n es (Ended k (Fence node) (Code 0) m) (rw e refl)))
       true_stands (Probe leaf node) n = within.stands n ∙ ap (standing_by c) (sym (unsigned n es (Ended k (Probe leaf node) (Code (true_code c (Probe leaf node) w.cells)) m) refl))
-      true_stands (Cell op leaf node interval role) n =
+      true_stands (Operation op leaf node interval role) n =
           within.stands n
-          ∙ ap (standing_by c) (sym (unsigned n es (Ended k (Cell op leaf node interval role) (Code (true_code c (Cell op leaf node interval role) w.cells)) m) refl))
+          ∙ ap (standing_by c) (sym (unsigned n es (Ended k (Operation op leaf node interval role) (Code (true_code c (Operation op leaf node interval role) w.cells)) m) refl))
       true_stands (MigrateTo leaf source target) n =
           within.stands n ∙ ap (standing_by c) (sym (unsigned n es (Ended k (MigrateTo leaf source target) (Code 0) m) refl))
       true_stands (MigrateFrom leaf source target) n =

@@ -2,7 +2,7 @@
 use Rattle.std.specs.Prelude.{ℕ, ◌==◌, ◌&&◌, nat_lt, Bool, true, false, is_none, if◌then◌else◌, Option, Some, None, List, length}
 use Rattle.cluster_types.specs.declared.cluster.Cluster.{Cluster}
 use Rattle.cluster_types.specs.declared.journal.Action.{Action}
-use Rattle.cluster_types.specs.declared.journal.Action.TheVariants.{Fence, Probe, Cell, MigrateTo, MigrateFrom}
+use Rattle.cluster_types.specs.declared.journal.Action.TheVariants.{Fence, Probe, Operation, MigrateTo, MigrateFrom}
 use Rattle.cluster_types.specs.declared.journal.Event.{Event}
 use Rattle.cluster_types.specs.declared.leaf.Op.{Op}
 use Rattle.cluster_types.specs.declared.leaf.Op.TheVariants.{Start, Stop, Promote, Demote, Monitor}
@@ -132,14 +132,14 @@ module _ (c : Cluster) where
       if is_there (found_at c cells leaf source) then with_changed_cell leaf target (λ x. real.Started) cells else cells
   begun (Fence node) cells = cells
   begun (Probe leaf node) cells = cells
-  begun (Cell op leaf node interval role) cells = cells
+  begun (Operation op leaf node interval role) cells = cells
   begun (MigrateFrom leaf source target) cells = cells
 
   -- it is done: what has migrated runs no more at the source
   abbrev pub done : Action → Cells → Cells
   done (Fence node) cells = without_node node cells
   done (Probe leaf node) cells = cells
-  done (Cell op leaf node interval role) cells = with_changed_cell leaf node (after_op op leaf) cells
+  done (Operation op leaf node interval role) cells = with_changed_cell leaf node (after_op op leaf) cells
   done (MigrateTo leaf source target) cells =
       if is_there (found_at c cells leaf target) then with_changed_cell leaf source (λ x. real.Off) cells else cells
   done (MigrateFrom leaf source target) cells = cells
@@ -150,7 +150,7 @@ module _ (c : Cluster) where
       if is_there (found_at c cells leaf source) then with_changed_cell leaf target (λ x. real.Off) cells else cells
   undone (Fence node) cells = cells
   undone (Probe leaf node) cells = cells
-  undone (Cell op leaf node interval role) cells = cells
+  undone (Operation op leaf node interval role) cells = cells
   undone (MigrateFrom leaf source target) cells = cells
 
   -- it isn't done in time: a start comes true later
@@ -162,7 +162,7 @@ module _ (c : Cluster) where
   given_up_op Monitor leaf node cells = cells
 
   abbrev pub given_up : Action → Cells → Cells
-  given_up (Cell op leaf node interval role) cells = given_up_op op leaf node cells
+  given_up (Operation op leaf node interval role) cells = given_up_op op leaf node cells
   given_up (MigrateTo leaf source target) cells = undone (MigrateTo leaf source target) cells
   given_up (Fence node) cells = cells
   given_up (Probe leaf node) cells = cells
@@ -171,11 +171,11 @@ module _ (c : Cluster) where
   -- the exit code with which an action ends that does what it is for
   abbrev pub true_code : Action → Cells → ℕ
   true_code (Probe leaf node) cells = looked (found_at c cells leaf node)
-  true_code (Cell Monitor leaf node interval role) cells = looked (found_at c cells leaf node)
-  true_code (Cell Start leaf node interval role) cells = success
-  true_code (Cell Stop leaf node interval role) cells = success
-  true_code (Cell Promote leaf node interval role) cells = success
-  true_code (Cell Demote leaf node interval role) cells = success
+  true_code (Operation Monitor leaf node interval role) cells = looked (found_at c cells leaf node)
+  true_code (Operation Start leaf node interval role) cells = success
+  true_code (Operation Stop leaf node interval role) cells = success
+  true_code (Operation Promote leaf node interval role) cells = success
+  true_code (Operation Demote leaf node interval role) cells = success
   true_code (Fence node) cells = success
   true_code (MigrateTo leaf source target) cells = success
   true_code (MigrateFrom leaf source target) cells = success

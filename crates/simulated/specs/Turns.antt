@@ -2,7 +2,7 @@
 use Rattle.std.specs.Prelude.{◌≡◌, ℕ, ◌+◌, ◌<◌, ◌==◌, ◌&&◌, nat_lt, Bool, true, false, if◌then◌else◌, Option, Some, None, length}
 use Rattle.cluster_types.specs.declared.cluster.Cluster.{Cluster}
 use Rattle.cluster_types.specs.declared.journal.Action.{Action}
-use Rattle.cluster_types.specs.declared.journal.Action.TheVariants.{Fence, Probe, Cell, MigrateTo, MigrateFrom}
+use Rattle.cluster_types.specs.declared.journal.Action.TheVariants.{Fence, Probe, Operation, MigrateTo, MigrateFrom}
 use Rattle.cluster_types.specs.declared.journal.Answer.{Answer}
 use Rattle.cluster_types.specs.declared.journal.Answer.TheVariants as answer
 use Rattle.cluster_types.specs.ExitCodes.{err_generic}
@@ -39,7 +39,7 @@ with_node node standing nodes n = if node == n then standing else nodes n
 abbrev pub fenced : Action → (ℕ → Standing) → (ℕ → Standing)
 fenced (Fence node) nodes = with_node node standing.Off nodes
 fenced (Probe leaf node) nodes = nodes
-fenced (Cell op leaf node interval role) nodes = nodes
+fenced (Operation op leaf node interval role) nodes = nodes
 fenced (MigrateTo leaf source target) nodes = nodes
 fenced (MigrateFrom leaf source target) nodes = nodes
 

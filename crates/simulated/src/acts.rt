@@ -46,7 +46,7 @@ pub fn begin(cluster: &Cluster, action: Action, cells: &mut Vec<Real>)
         } => set_if_found(cluster, leaf, target, source, Real::Started, cells),
         Action::Fence { .. }
         | Action::Probe { .. }
-        | Action::Cell { .. }
+        | Action::Operation { .. }
         | Action::MigrateFrom { .. } => {}
     }
 }
@@ -99,7 +99,7 @@ pub fn act(cluster: &Cluster, action: Action, cells: &mut Vec<Real>)
     match action {
         Action::Fence { node } => clear_node(cluster, node, cells),
         Action::Probe { .. } | Action::MigrateFrom { .. } => {}
-        Action::Cell { op, leaf, node, .. } => do_op(cluster, op, leaf, node, cells),
+        Action::Operation { op, leaf, node, .. } => do_op(cluster, op, leaf, node, cells),
         Action::MigrateTo {
             leaf,
             source,
@@ -122,7 +122,7 @@ pub fn undo(cluster: &Cluster, action: Action, cells: &mut Vec<Real>)
         } => set_if_found(cluster, leaf, target, source, Real::Off, cells),
         Action::Fence { .. }
         | Action::Probe { .. }
-        | Action::Cell { .. }
+        | Action::Operation { .. }
         | Action::MigrateFrom { .. } => {}
     }
 }
@@ -145,13 +145,13 @@ pub fn true_code(cluster: &Cluster, action: Action, cells: &[Real]) -> u8
 {
     match action {
         Action::Probe { leaf, node } => looked(found_at(cluster, leaf, node, cells)),
-        Action::Cell {
+        Action::Operation {
             op: Op::Monitor,
             leaf,
             node,
             ..
         } => looked(found_at(cluster, leaf, node, cells)),
-        Action::Cell {
+        Action::Operation {
             op: Op::Start | Op::Stop | Op::Promote | Op::Demote,
             ..
         }

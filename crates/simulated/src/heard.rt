@@ -40,7 +40,7 @@ fn hear_of(cluster: &Cluster, action: Action, heard: &mut Vec<bool>)
 {
     match action {
         Action::Fence { .. } => {}
-        Action::Probe { leaf, node } | Action::Cell { leaf, node, .. } => {
+        Action::Probe { leaf, node } | Action::Operation { leaf, node, .. } => {
             say_of_cell(cluster, leaf, node, true, heard)
         }
         Action::MigrateTo { leaf, source, .. } => say_of_cell(cluster, leaf, source, true, heard),

@@ -29,7 +29,7 @@ pub fn fence(nodes: &mut Vec<Standing>, action: Action)
     match action {
         Action::Fence { node } => set_node(nodes, node, Standing::Off),
         Action::Probe { .. }
-        | Action::Cell { .. }
+        | Action::Operation { .. }
         | Action::MigrateTo { .. }
         | Action::MigrateFrom { .. } => {}
     }

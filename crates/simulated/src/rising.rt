@@ -73,7 +73,7 @@ pub fn give_up(cluster: &Cluster, action: Action, cells: &mut Vec<Real>) -> Opti
     ensures len { length cells.new.items ≡ length cells.old.items }
 {
     match action {
-        Action::Cell { op, leaf, node, .. } => give_up_op(cluster, op, leaf, node, cells),
+        Action::Operation { op, leaf, node, .. } => give_up_op(cluster, op, leaf, node, cells),
         Action::MigrateTo {
             leaf,
             source,

@@ -1,7 +1,7 @@
 -- Of which cells an event tells something (follows from the definitions of what events tell).
 use Rattle.std.specs.Prelude.{ℕ, ◌==◌, ◌||◌, Bool, false}
 use Rattle.cluster_types.specs.declared.journal.Action.{Action}
-use Rattle.cluster_types.specs.declared.journal.Action.TheVariants.{Fence, Probe, Cell, MigrateTo, MigrateFrom}
+use Rattle.cluster_types.specs.declared.journal.Action.TheVariants.{Fence, Probe, Operation, MigrateTo, MigrateFrom}
 use Rattle.cluster_types.specs.declared.journal.Event.{Event}
 use Rattle.cluster_types.specs.declared.journal.Event.TheVariants.{Up, Down, Lost, Quorum, Wait, Cleanup, Begin, Ended}
 use Rattle.cluster_types.specs.Cells.{is_same_cell}
@@ -10,7 +10,7 @@ use Rattle.cluster_types.specs.Cells.{is_same_cell}
 abbrev pub action_touches : ℕ → ℕ → Action → Bool
 action_touches r n (Fence node) = node == n
 action_touches r n (Probe leaf node) = is_same_cell r n leaf node
-action_touches r n (Cell op leaf node interval role) = is_same_cell r n leaf node
+action_touches r n (Operation op leaf node interval role) = is_same_cell r n leaf node
 action_touches r n (MigrateTo leaf source target) = is_same_cell r n leaf source || is_same_cell r n leaf target
 action_touches r n (MigrateFrom leaf source target) = is_same_cell r n leaf source || is_same_cell r n leaf target
 

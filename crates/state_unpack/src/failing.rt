@@ -43,7 +43,7 @@ pub fn is_start(event: Event) -> bool
     matches!(
         event,
         Event::Ended {
-            action: Action::Cell { op: Op::Start, .. },
+            action: Action::Operation { op: Op::Start, .. },
             ..
         }
     )

@@ -15,7 +15,7 @@ fn opens_as_it_begins(leaf: LeafId, node: NodeId, action: Action) -> bool
     ensures { (number : ℕ) → result ≡ may.opens_cell leaf node (Begin number action) }
 {
     match action {
-        Action::Cell {
+        Action::Operation {
             op: Op::Start | Op::Promote | Op::Demote,
             leaf: its_leaf,
             node: its_node,
@@ -51,7 +51,7 @@ fn opens_as_it_ends(leaf: LeafId, node: NodeId, action: Action, outcome: Outcome
     ensures { (number moment : ℕ) → result ≡ may.opens_cell leaf node (Ended number action outcome moment) }
 {
     match action {
-        Action::Cell {
+        Action::Operation {
             op,
             leaf: its_leaf,
             node: its_node,
@@ -102,7 +102,7 @@ fn closes_cell(leaf: LeafId, node: NodeId, event: Event) -> bool
 {
     match event {
         Event::Ended {
-            action: Action::Cell {
+            action: Action::Operation {
                 op,
                 leaf: its_leaf,
                 node: its_node,

@@ -46,7 +46,7 @@ fn good_codes(action: Action) -> &'static [u8]
             RUNNING_PROMOTED,
             DEGRADED_PROMOTED,
         ],
-        Action::Cell { op, .. } => good_codes_of_op(op),
+        Action::Operation { op, .. } => good_codes_of_op(op),
         Action::Fence { .. } | Action::MigrateTo { .. } | Action::MigrateFrom { .. } => &[SUCCESS],
     }
 }
@@ -100,7 +100,7 @@ fn fail_of(cluster: &Cluster, action: Action) -> OnFail
     ensures { result ≡ outcomes.action_fail cluster.now action }
 {
     match action {
-        Action::Cell {
+        Action::Operation {
             op,
             leaf,
             interval_ms,
@@ -127,7 +127,7 @@ fn is_monitor(action: Action) -> bool
 {
     matches!(
         action,
-        Action::Cell {
+        Action::Operation {
             op: Op::Monitor,
             ..
         }

@@ -32,7 +32,7 @@ fn promotes_as_it_ends(leaf: LeafId, node: NodeId, action: Action, outcome: Outc
     ensures { (number moment : ℕ) → result ≡ may.promotes_cell leaf node (Ended number action outcome moment) }
 {
     match action {
-        Action::Cell {
+        Action::Operation {
             op,
             leaf: its_leaf,
             node: its_node,
@@ -52,7 +52,7 @@ fn promotes_cell(leaf: LeafId, node: NodeId, event: Event) -> bool
     match event {
         Event::Up { node: joined } => joined == node,
         Event::Begin {
-            action: Action::Cell {
+            action: Action::Operation {
                 op: Op::Promote,
                 leaf: its_leaf,
                 node: its_node,
@@ -85,7 +85,7 @@ fn demotes_cell(leaf: LeafId, node: NodeId, event: Event) -> bool
 {
     match event {
         Event::Ended {
-            action: Action::Cell {
+            action: Action::Operation {
                 op,
                 leaf: its_leaf,
                 node: its_node,

@@ -67,7 +67,7 @@ fn changes_cell(leaf: LeafId, node: NodeId, action: Action) -> bool
     match action {
         Action::Fence { .. }
         | Action::Probe { .. }
-        | Action::Cell {
+        | Action::Operation {
             op: Op::Monitor,
             ..
         } => false,
@@ -93,7 +93,7 @@ pub fn is_end_of_monitor(leaf: LeafId, node: NodeId, interval_ms: u32, event: Ev
 {
     match event {
         Event::Ended {
-            action: Action::Cell {
+            action: Action::Operation {
                 op: Op::Monitor,
                 leaf: its_leaf,
                 node: its_node,

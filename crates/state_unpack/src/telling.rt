@@ -59,7 +59,7 @@ fn tell_action(cluster: &Cluster, action: Action, event: Event, cells: &mut Vec<
 {
     match action {
         Action::Fence { node } => tell_node(cluster, node, event, cells),
-        Action::Probe { leaf, node } | Action::Cell { leaf, node, .. } => {
+        Action::Probe { leaf, node } | Action::Operation { leaf, node, .. } => {
             tell_cell(cluster, leaf, node, event, cells)
         }
         Action::MigrateTo {

@@ -68,7 +68,7 @@ pub(crate) fn push_action(
             Ok(())
         }
         Action::Probe { leaf, node } => push_on(text, cluster, b"probe ", leaf, node),
-        Action::Cell {
+        Action::Operation {
             op: Op::Monitor,
             leaf,
             node,
@@ -78,7 +78,7 @@ pub(crate) fn push_action(
             push_on(text, cluster, b"monitor ", leaf, node)?;
             push_interval(text, interval_ms)
         }
-        Action::Cell { op, leaf, node, .. } => push_on(text, cluster, op_word(op), leaf, node),
+        Action::Operation { op, leaf, node, .. } => push_on(text, cluster, op_word(op), leaf, node),
         Action::MigrateTo {
             leaf,
             source,

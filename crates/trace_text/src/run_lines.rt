@@ -130,14 +130,14 @@ fn put_action(text: &mut LineBuf, cluster: &Cluster, action: Action)
     match action {
         Action::Fence { node } => put_node(text, cluster, b"fence ", node),
         Action::Probe { leaf, node } => put_on(text, cluster, b"probe ", leaf, node),
-        Action::Cell {
+        Action::Operation {
             op: Op::Monitor,
             leaf,
             node,
             interval_ms,
             ..
         } => put_monitor(text, cluster, leaf, node, interval_ms),
-        Action::Cell { op, leaf, node, .. } => put_on(text, cluster, op_word(op), leaf, node),
+        Action::Operation { op, leaf, node, .. } => put_on(text, cluster, op_word(op), leaf, node),
         Action::MigrateTo {
             leaf,
             source,

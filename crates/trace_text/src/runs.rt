@@ -40,7 +40,7 @@ fn answer_of_end(number: u32, action: Action, code: u8) -> Answer
         return Answer::End { number, code };
     }
     match action {
-        Action::Cell {
+        Action::Operation {
             op: Op::Monitor,
             leaf,
             node,

@@ -6,7 +6,7 @@ use Rattle.std.proofs.lemmas.Bool.{eq-eqb, eqb-true}
 use Rattle.lemmas.proofs.Members.{head_or_rest, in_none}
 use Rattle.cluster_types.specs.declared.cluster.Cluster.{Cluster}
 use Rattle.cluster_types.specs.declared.journal.Action.{Action}
-use Rattle.cluster_types.specs.declared.journal.Action.TheVariants.{Cell}
+use Rattle.cluster_types.specs.declared.journal.Action.TheVariants.{Operation}
 use Rattle.cluster_types.specs.declared.journal.Event.{Event}
 use Rattle.cluster_types.specs.declared.leaf.Leaf.{Leaf}
 use Rattle.cluster_types.specs.declared.leaf.Monitor.{Monitor as MonitorOf}
@@ -72,8 +72,8 @@ module _ (c : Cluster) (valid : IsValid c) (fit : IntervalsFit c) where
 
     migrating_cells : (r n m : ℕ) → Migrates c es targets r n m → IsCellOf c r n × (m < length c.nodes)
     migrating_cells r n m is =
-        let from = first_fits (Cell op.Stop r n 0 role.Started) is.stopped in
-        let to = first_fits (Cell op.Start r m 0 role.Started) is.started in
+        let from = first_fits (Operation op.Stop r n 0 role.Started) is.stopped in
+        let to = first_fits (Operation op.Start r m 0 role.Started) is.started in
         (from.0, (to.0).node)
 
     pub needed_fits : (a : Action) → Needed c es targets a → IsActionOf c a

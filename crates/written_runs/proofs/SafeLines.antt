@@ -5,7 +5,7 @@ use Rattle.std.proofs.lemmas.Bool.{eq-eqb}
 use Rattle.std.proofs.lemmas.Option.{IfSome_then}
 use Rattle.cluster_types.specs.declared.cluster.Cluster.{Cluster}
 use Rattle.cluster_types.specs.declared.journal.Action.{Action}
-use Rattle.cluster_types.specs.declared.journal.Action.TheVariants.{Fence, Probe, Cell, MigrateTo, MigrateFrom}
+use Rattle.cluster_types.specs.declared.journal.Action.TheVariants.{Fence, Probe, Operation, MigrateTo, MigrateFrom}
 use Rattle.cluster_types.specs.declared.journal.Answer.{Answer}
 use Rattle.cluster_types.specs.declared.journal.Answer.TheVariants as answer
 use Rattle.cluster_types.specs.declared.journal.Event.{Event}
@@ -118,7 +118,7 @@ begun_alone k j a b (x ∷ y ∷ front) after e f = absurd (let g : ⊥ = cc in 
 alone_by_journal : (t : Transition) (first before : List Event) (a : Action) → MigratesAlone t before a → HasItsLeafAlone t.cluster first a (journal t before)
 alone_by_journal t first before (Fence n) h = tt
 alone_by_journal t first before (Probe r n) h = tt
-alone_by_journal t first before (Cell o r n interval role) h = tt
+alone_by_journal t first before (Operation o r n interval role) h = tt
 alone_by_journal t first before (MigrateTo r source to) h = h
 alone_by_journal t first before (MigrateFrom r source to) h = h
 

@@ -5,7 +5,7 @@ use Rattle.std.proofs.lemmas.Bool.{eq-eqb, ltb-true}
 use Rattle.lemmas.proofs.Booleans.{later, sooner}
 use Rattle.lemmas.proofs.Members.{all_first}
 use Rattle.cluster_types.specs.declared.journal.Action.{Action}
-use Rattle.cluster_types.specs.declared.journal.Action.TheVariants.{Fence, Probe, Cell, MigrateTo, MigrateFrom}
+use Rattle.cluster_types.specs.declared.journal.Action.TheVariants.{Fence, Probe, Operation, MigrateTo, MigrateFrom}
 use Rattle.cluster_types.specs.declared.journal.Answer.{Answer}
 use Rattle.cluster_types.specs.declared.journal.Answer.TheVariants as answer
 use Rattle.cluster_types.specs.declared.journal.Event.{Event}
@@ -65,12 +65,12 @@ first_three false b d e f g i j h = cc
 silent_low : (a : Action) → silent_code a < 256
 silent_low (Fence n) = omega arith
 silent_low (Probe r n) = omega arith
-silent_low (Cell Start r n interval role) = omega arith
-silent_low (Cell Stop r n interval role) = omega arith
-silent_low (Cell Promote r n interval role) = omega arith
-silent_low (Cell Demote r n interval role) = omega arith
-silent_low (Cell Monitor r n interval role.Started) = omega arith
-silent_low (Cell Monitor r n interval role.Promoted) = omega arith
+silent_low (Operation Start r n interval role) = omega arith
+silent_low (Operation Stop r n interval role) = omega arith
+silent_low (Operation Promote r n interval role) = omega arith
+silent_low (Operation Demote r n interval role) = omega arith
+silent_low (Operation Monitor r n interval role.Started) = omega arith
+silent_low (Operation Monitor r n interval role.Promoted) = omega arith
 silent_low (MigrateTo r source to) = omega arith
 silent_low (MigrateFrom r source to) = omega arith
 

@@ -1,9 +1,13 @@
 -- How the actions before one are found: the positions from which edges lead to it are marked, and then those from which edges lead to a gate that
 -- is marked (rule of this project). No public clause cites this module.
-use Rattle.std.specs.Prelude.{◌≡◌, ◌≤◌, ◌==◌, ◌&&◌, ℕ, Bool, true, List, Contains}
+use Rattle.std.specs.Prelude.{◌≡◌, ◌≤◌, nat_le, ◌==◌, ◌&&◌, ◌||◌, ℕ, Bool, true, List, Contains}
 use Rattle.listed.specs.Flags.{is_marked}
 use Rattle.edges.specs.declared.edge.Edge.{Edge}
-use Rattle.cluster_types.specs.Graphs.{LeadsByGates}
+use Rattle.cluster_types.specs.Graphs.{LeadsByGates, leads_by_gates_within}
+
+-- the edge leads on from x, and after it at most so many others to y
+abbrev pub leads_by : ℕ → ℕ → List Edge → ℕ → ℕ → Edge → Bool
+leads_by most actions edges x y e = e.before == x && (e.after == y || nat_le actions e.after && leads_by_gates_within most actions edges e.after y)
 
 -- the edge leads from x to y
 abbrev pub joins : ℕ → ℕ → Edge → Bool

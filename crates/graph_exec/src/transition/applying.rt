@@ -67,7 +67,7 @@ impl<'c> Course<'c> {
     pub(crate) fn monitor_action(&self, leaf: LeafId, node: NodeId, interval_ms: u32) -> Action
         ensures { result ≡ answering.monitor_action self.now.cluster leaf node interval_ms }
     {
-        Action::Cell {
+        Action::Operation {
             op: Op::Monitor,
             leaf,
             node,

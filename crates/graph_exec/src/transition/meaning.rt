@@ -16,12 +16,12 @@ fn expected_codes(action: Action) -> &'static [u8]
 {
     match action {
         Action::Probe { .. } => &[NOT_RUNNING],
-        Action::Cell {
+        Action::Operation {
             op: Op::Monitor,
             role: Role::Promoted,
             ..
         } => &[RUNNING_PROMOTED, DEGRADED_PROMOTED],
-        Action::Cell {
+        Action::Operation {
             op: Op::Monitor,
             ..
         } => &[SUCCESS, DEGRADED],
@@ -35,7 +35,7 @@ pub fn silent_code(action: Action) -> u8
 {
     match action {
         Action::Probe { .. } => NOT_RUNNING,
-        Action::Cell {
+        Action::Operation {
             op: Op::Monitor,
             role: Role::Promoted,
             ..
@@ -89,7 +89,7 @@ pub fn is_on(node: NodeId, action: Action) -> bool
 {
     match action {
         Action::Fence { .. } => false,
-        Action::Probe { node: its_node, .. } | Action::Cell { node: its_node, .. } => {
+        Action::Probe { node: its_node, .. } | Action::Operation { node: its_node, .. } => {
             its_node == node
         }
         Action::MigrateTo { source, .. } => source == node,

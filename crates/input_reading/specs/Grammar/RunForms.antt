@@ -3,7 +3,7 @@ use Rattle.std.specs.Prelude.{◌≡◌, ℕ, true, List, [], ◌∷◌, codes}
 use Rattle.crm_lex.specs.Names.{is_name}
 use Rattle.cluster_types.specs.declared.cluster.Cluster.{Cluster}
 use Rattle.cluster_types.specs.declared.journal.Action.{Action}
-use Rattle.cluster_types.specs.declared.journal.Action.TheVariants.{Fence, Probe, Cell, MigrateTo, MigrateFrom}
+use Rattle.cluster_types.specs.declared.journal.Action.TheVariants.{Fence, Probe, Operation, MigrateTo, MigrateFrom}
 use Rattle.cluster_types.specs.declared.journal.Answer.{Answer}
 use Rattle.cluster_types.specs.declared.leaf.Op.{Op}
 use Rattle.cluster_types.specs.declared.leaf.Op.TheVariants.{Start, Stop, Promote, Demote}
@@ -53,7 +53,7 @@ pub data ActionSays (c : Cluster) : List (List ℕ) → Action → Type 0 where
   probe_form : (leaf_name name : List ℕ) (leaf node : ℕ) → NamesLeaf c leaf_name leaf → NamesNode c name node
       → ActionSays c (codes "probe" ∷ leaf_name ∷ name ∷ []) (Probe leaf node)
   operation_form : (word leaf_name name : List ℕ) (op : Op) (leaf node : ℕ) → SaysOperation word op → NamesLeaf c leaf_name leaf → NamesNode c name node
-      → ActionSays c (word ∷ leaf_name ∷ name ∷ []) (Cell op leaf node 0 role.Started)
+      → ActionSays c (word ∷ leaf_name ∷ name ∷ []) (Operation op leaf node 0 role.Started)
   monitor_form : (leaf_name name number : List ℕ) (leaf node interval : ℕ) → NamesLeaf c leaf_name leaf → NamesNode c name node → WritesPositive number interval
       → ActionSays c (codes "monitor" ∷ leaf_name ∷ name ∷ number ∷ []) (monitor_action c leaf node interval)
   migrate_to_form : (leaf_name from to : List ℕ) (leaf source goal : ℕ) → NamesLeaf c leaf_name leaf → NamesNode c from source → NamesNode c to goal

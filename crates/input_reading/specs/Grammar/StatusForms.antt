@@ -4,7 +4,7 @@ use Rattle.std.specs.Prelude.{◌≡◌, ℕ, ℤ, Bool, true, List, [], ◌∷�
 use Rattle.score.specs.ScoreText.{read_score}
 use Rattle.cluster_types.specs.declared.cluster.Cluster.{Cluster}
 use Rattle.cluster_types.specs.declared.journal.Action.{Action}
-use Rattle.cluster_types.specs.declared.journal.Action.TheVariants.{Probe, Cell}
+use Rattle.cluster_types.specs.declared.journal.Action.TheVariants.{Probe, Operation}
 use Rattle.cluster_types.specs.declared.journal.Event.TheVariants.{Cleanup, Ended}
 use Rattle.cluster_types.specs.declared.journal.Outcome.{Outcome}
 use Rattle.cluster_types.specs.declared.journal.Outcome.TheVariants.{Code, TimedOut}
@@ -31,10 +31,10 @@ WritesZero word = WritesNumber 0 0 word 0
 -- the name and the milliseconds of an operation say which action of the cell ended; a monitor of 0 milliseconds is a probe. Only a promotable leaf is
 -- promoted and demoted
 pub data ActionEnded (c : Cluster) (leaf node : ℕ) : List ℕ → List ℕ → Action → Type 0 where
-  a_start : (ms : List ℕ) → WritesZero ms → ActionEnded c leaf node (codes "start") ms (Cell Start leaf node 0 Started)
-  a_stop : (ms : List ℕ) → WritesZero ms → ActionEnded c leaf node (codes "stop") ms (Cell Stop leaf node 0 Started)
-  a_promote : (ms : List ℕ) → is_promotable c leaf ≡ true → WritesZero ms → ActionEnded c leaf node (codes "promote") ms (Cell Promote leaf node 0 Started)
-  a_demote : (ms : List ℕ) → is_promotable c leaf ≡ true → WritesZero ms → ActionEnded c leaf node (codes "demote") ms (Cell Demote leaf node 0 Started)
+  a_start : (ms : List ℕ) → WritesZero ms → ActionEnded c leaf node (codes "start") ms (Operation Start leaf node 0 Started)
+  a_stop : (ms : List ℕ) → WritesZero ms → ActionEnded c leaf node (codes "stop") ms (Operation Stop leaf node 0 Started)
+  a_promote : (ms : List ℕ) → is_promotable c leaf ≡ true → WritesZero ms → ActionEnded c leaf node (codes "promote") ms (Operation Promote leaf node 0 Started)
+  a_demote : (ms : List ℕ) → is_promotable c leaf ≡ true → WritesZero ms → ActionEnded c leaf node (codes "demote") ms (Operation Demote leaf node 0 Started)
   a_probe : (ms : List ℕ) → WritesZero ms → ActionEnded c leaf node (codes "monitor") ms (Probe leaf node)
   a_monitor : (ms : List ℕ) (interval : ℕ) → WritesPositive ms interval → ActionEnded c leaf node (codes "monitor") ms (monitor_action c leaf node interval)
 

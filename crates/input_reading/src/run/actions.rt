@@ -32,7 +32,7 @@ fn probe_at_end<W: Words>(names: &Names<'_>, words: &W) -> Result<Action, WordCa
 fn monitor_action(names: &Names<'_>, leaf: LeafId, node: NodeId, interval_ms: u32) -> Action
     ensures { result ≡ monitor_action names.now leaf node interval_ms }
 {
-    Action::Cell {
+    Action::Operation {
         op: Op::Monitor,
         leaf,
         node,
@@ -59,7 +59,7 @@ fn operation_at_end<W: Words>(names: &Names<'_>, op: Op, words: &W) -> Result<Ac
     let leaf = leaf_at(names, 3, words)?;
     let node = node_at(names, 4, words)?;
     end_at(5, words)?;
-    Ok(Action::Cell {
+    Ok(Action::Operation {
         op,
         leaf,
         node,

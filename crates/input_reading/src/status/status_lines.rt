@@ -189,14 +189,14 @@ fn action_as(names: &Names<'_>, op: Op, leaf: LeafId, node: NodeId, interval_ms:
 {
     match op {
         Op::Monitor if interval_ms == 0 => Action::Probe { leaf, node },
-        Op::Monitor => Action::Cell {
+        Op::Monitor => Action::Operation {
             op,
             leaf,
             node,
             interval_ms,
             role: names.cluster().role_of_interval(leaf, interval_ms),
         },
-        Op::Start | Op::Stop | Op::Promote | Op::Demote => Action::Cell {
+        Op::Start | Op::Stop | Op::Promote | Op::Demote => Action::Operation {
             op,
             leaf,
             node,

@@ -4,7 +4,7 @@ use Rattle.std.specs.List.{flat_map, list_all, list_any, range_with_len}
 use Rattle.std.specs.Option.{option_map_or}
 use Rattle.cluster_types.specs.declared.cluster.Cluster.{Cluster}
 use Rattle.cluster_types.specs.declared.journal.Action.{Action}
-use Rattle.cluster_types.specs.declared.journal.Action.TheVariants.{Fence, Probe, Cell, MigrateTo, MigrateFrom}
+use Rattle.cluster_types.specs.declared.journal.Action.TheVariants.{Fence, Probe, Operation, MigrateTo, MigrateFrom}
 use Rattle.cluster_types.specs.declared.leaf.Monitor.{Monitor as MonitorOf}
 use Rattle.cluster_types.specs.declared.leaf.Op.{Op}
 use Rattle.cluster_types.specs.declared.leaf.Op.TheVariants as op
@@ -75,10 +75,10 @@ is_elsewhere None n = false
 is_elsewhere (Some source) n = not (source == n)
 
 abbrev pub step_action : ℕ → ℕ → Op → Action
-step_action r n o = Cell o r n 0 role.Started
+step_action r n o = Operation o r n 0 role.Started
 
 abbrev pub leaf_monitor : ℕ → ℕ → MonitorOf → Action
-leaf_monitor r n m = Cell op.Monitor r n m.interval_ms m.role
+leaf_monitor r n m = Operation op.Monitor r n m.interval_ms m.role
 
 -- where the leaf is sent to the node it isn't started there
 abbrev pub stays_needed : Bool → Op → Bool

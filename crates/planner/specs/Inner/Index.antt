@@ -3,7 +3,7 @@ use Rattle.std.specs.Prelude.{◌≡◌, ℕ, ◌<◌, ◌==◌, if◌then◌els
 use Rattle.std.specs.List.{range_with_len}
 use Rattle.std.specs.Option.{option_map_or}
 use Rattle.cluster_types.specs.declared.journal.Action.{Action}
-use Rattle.cluster_types.specs.declared.journal.Action.TheVariants.{Fence, Probe, Cell, MigrateTo, MigrateFrom}
+use Rattle.cluster_types.specs.declared.journal.Action.TheVariants.{Fence, Probe, Operation, MigrateTo, MigrateFrom}
 use Rattle.planner.specs.Inner.Places.{is_of_leaf, leaf_places}
 
 -- of each of so many leaves the index has the positions of its actions
@@ -29,6 +29,6 @@ with_place index None place = index
 abbrev pub leaf_if : Action → Option ℕ
 leaf_if (Fence n) = None
 leaf_if (Probe r n) = Some r
-leaf_if (Cell op r n interval role) = Some r
+leaf_if (Operation op r n interval role) = Some r
 leaf_if (MigrateTo r source target) = Some r
 leaf_if (MigrateFrom r source target) = Some r

@@ -2,7 +2,7 @@
 use Rattle.std.specs.Prelude.{ℕ, Bool, if◌then◌else◌, Option, None, []}
 use Rattle.cluster_types.specs.declared.cluster.Cluster.{Cluster}
 use Rattle.cluster_types.specs.declared.journal.Action.{Action}
-use Rattle.cluster_types.specs.declared.journal.Action.TheVariants.{Fence, Probe, Cell, MigrateTo, MigrateFrom}
+use Rattle.cluster_types.specs.declared.journal.Action.TheVariants.{Fence, Probe, Operation, MigrateTo, MigrateFrom}
 use Rattle.cluster_types.specs.declared.leaf.Op.{Op}
 use Rattle.cluster_types.specs.declared.leaf.Op.TheVariants as op
 use Rattle.planner.specs.declared.precedence.sides.Side.{Side}
@@ -14,14 +14,14 @@ use Rattle.planner.specs.Joins.{in_leaf, side_key_of}
 abbrev pub action_leaf : Action → ℕ
 action_leaf (Fence n) = 0
 action_leaf (Probe r n) = r
-action_leaf (Cell o r n interval role) = r
+action_leaf (Operation o r n interval role) = r
 action_leaf (MigrateTo r source target) = r
 action_leaf (MigrateFrom r source target) = r
 
 -- the later of a pair, where it is known whether the leaf of the action migrates
 abbrev pub later_stop : Bool → Action → Option CellOf
 later_stop migrates (MigrateTo r source target) = cell_of r source
-later_stop migrates (Cell op.Stop r n interval role) = if migrates then None else cell_of r n
+later_stop migrates (Operation op.Stop r n interval role) = if migrates then None else cell_of r n
 later_stop migrates _ = None
 
 abbrev pub later_by : Bool → Op → Action → Option CellOf
@@ -30,7 +30,7 @@ later_by migrates op.Stop a = later_stop migrates a
 later_by migrates o a = op_cell o a
 
 abbrev pub later_demote_by : Bool → Action → Option CellOf
-later_demote_by migrates (Cell op.Demote r n interval role) = cell_of r n
+later_demote_by migrates (Operation op.Demote r n interval role) = cell_of r n
 later_demote_by migrates a = later_stop migrates a
 
 abbrev pub later_taker_by : Bool → Op → Action → Option CellOf

@@ -3,7 +3,7 @@ use Rattle.std.specs.Prelude.{ℕ, ◌==◌, Bool, false, if◌then◌else◌, O
 use Rattle.std.specs.List.{range_with_len}
 use Rattle.std.specs.Option.{option_map_or}
 use Rattle.cluster_types.specs.declared.journal.Action.{Action}
-use Rattle.cluster_types.specs.declared.journal.Action.TheVariants.{Fence, Probe, Cell, MigrateTo, MigrateFrom}
+use Rattle.cluster_types.specs.declared.journal.Action.TheVariants.{Fence, Probe, Operation, MigrateTo, MigrateFrom}
 use Rattle.planner.specs.declared.precedence.sides.Join.{Join}
 use Rattle.planner.specs.declared.precedence.sides.Side.{Side}
 use Rattle.planner.specs.declared.precedence.sides.Side.TheVariants as side
@@ -11,7 +11,7 @@ use Rattle.planner.specs.declared.precedence.sides.Side.TheVariants as side
 abbrev pub is_of_leaf : ℕ → Action → Bool
 is_of_leaf r (Fence n) = false
 is_of_leaf r (Probe leaf n) = leaf == r
-is_of_leaf r (Cell op leaf n interval role) = leaf == r
+is_of_leaf r (Operation op leaf n interval role) = leaf == r
 is_of_leaf r (MigrateTo leaf source target) = leaf == r
 is_of_leaf r (MigrateFrom leaf source target) = leaf == r
 

@@ -42,7 +42,7 @@ fn is_elsewhere(source: Option<NodeId>, node: NodeId) -> bool
 fn step_action(leaf: LeafId, node: NodeId, op: Op) -> Action
     ensures { result ≡ actions.step_action leaf node op }
 {
-    Action::Cell {
+    Action::Operation {
         op,
         leaf,
         node,
@@ -116,7 +116,7 @@ fn push_monitor(
         ≡ list.old.items ++ (if is_wanted then actions.leaf_monitor leaf node monitor ∷ [] else [])) }
 {
     if is_wanted {
-        list.push(Action::Cell {
+        list.push(Action::Operation {
             op: Op::Monitor,
             leaf,
             node,

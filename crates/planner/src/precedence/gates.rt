@@ -18,7 +18,7 @@ fn leaf_of(action: Action) -> LeafId
     match action {
         Action::Fence { .. } => 0,
         Action::Probe { leaf, .. } => leaf,
-        Action::Cell { leaf, .. } => leaf,
+        Action::Operation { leaf, .. } => leaf,
         Action::MigrateTo { leaf, .. } => leaf,
         Action::MigrateFrom { leaf, .. } => leaf,
     }

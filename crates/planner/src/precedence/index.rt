@@ -53,7 +53,7 @@ fn leaf_if(action: Action) -> Option<LeafId>
     match action {
         Action::Fence { .. } => None,
         Action::Probe { leaf, .. } => Some(leaf),
-        Action::Cell { leaf, .. } => Some(leaf),
+        Action::Operation { leaf, .. } => Some(leaf),
         Action::MigrateTo { leaf, .. } => Some(leaf),
         Action::MigrateFrom { leaf, .. } => Some(leaf),
     }

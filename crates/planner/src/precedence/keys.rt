@@ -47,7 +47,7 @@ fn op_key(word: Op, action: Action) -> Option<Key>
     ensures { result ≡ precedence.op_cell word action }
 {
     match action {
-        Action::Cell { op, leaf, node, .. } => {
+        Action::Operation { op, leaf, node, .. } => {
             if is_same_op(word, op) {
                 at(leaf, node)
             } else {
@@ -80,7 +80,7 @@ fn gives_any(action: Action) -> Option<Key>
     ensures { result ≡ precedence.gives_any action }
 {
     match action {
-        Action::Cell {
+        Action::Operation {
             op: Op::Promote,
             leaf,
             node,
@@ -94,11 +94,11 @@ pub fn change_key(action: Action) -> Option<Key>
     ensures { result ≡ precedence.change_cell action }
 {
     match action {
-        Action::Cell {
+        Action::Operation {
             op: Op::Monitor,
             ..
         } => None,
-        Action::Cell { leaf, node, .. } => at(leaf, node),
+        Action::Operation { leaf, node, .. } => at(leaf, node),
         _ => None,
     }
 }
@@ -119,7 +119,7 @@ fn takes_or_probes(role: Role, action: Action) -> Option<Key>
         (_, Action::Probe { leaf, node }) => at(leaf, node),
         (
             Role::Promoted,
-            Action::Cell {
+            Action::Operation {
                 op: Op::Demote,
                 leaf,
                 node,
@@ -145,7 +145,7 @@ fn as_later_stop(action: Action, migrates: bool) -> Option<Key>
 {
     match action {
         Action::MigrateTo { leaf, source, .. } => at(leaf, source),
-        Action::Cell {
+        Action::Operation {
             op: Op::Stop,
             leaf,
             node,
@@ -169,7 +169,7 @@ fn take_key(action: Action) -> Option<Key>
     ensures { result ≡ spec.take_cell action }
 {
     match action {
-        Action::Cell {
+        Action::Operation {
             op: Op::Demote,
             leaf,
             node,
@@ -193,7 +193,7 @@ fn later_demote(action: Action, migrates: bool) -> Option<Key>
     ensures { result ≡ leaves.later_demote_by migrates action }
 {
     match action {
-        Action::Cell {
+        Action::Operation {
             op: Op::Demote,
             leaf,
             node,

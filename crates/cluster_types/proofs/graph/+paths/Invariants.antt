@@ -1,6 +1,6 @@
 use Rattle.std.proofs.Common.{◌≡◌, ◌-◌, ◌+◌, ◌*◌, false, take}
 use Rattle.std.specs.List.{list_any}
-use Rattle.cluster_types.specs.Graphs.{leads_by}
+use Rattle.cluster_types.specs.Inner.Walks.{leads_by}
 use Rattle.cluster_types.proofs.graph.+paths.Given as goal
 
 abbrev pub decreases-leads_by : goal.decreases-leads_by

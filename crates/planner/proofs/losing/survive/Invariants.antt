@@ -1,4 +1,5 @@
-use Rattle.planner.specs.Losses.{AreLosses, online_before}
+use Rattle.planner.specs.Losses.{AreLosses}
+use Rattle.planner.specs.Inner.OnlineBefore.{online_before}
 use Rattle.planner.proofs.losing.survive.Given as goal
 
 abbrev pub invariant-loop-node : goal.invariant-loop-node
