@@ -27,7 +27,7 @@ impl Model for Waiting {
 
     ghost view = { λ w. record { graph = w.graph; begun = w.queue.begun.items; succeeded = w.queue.succeeded.items } };
 
-    ghost invariant = { λ w. ClearingRests w.graph w.rows.ends.items w.rows.targets.items w.queue.begun.items w.queue.succeeded.items w.queue.ready w.queue.left.items
+    ghost invariant = { λ w. ClearingRests w.graph w.rows w.queue.begun.items w.queue.succeeded.items w.queue.ready w.queue.left.items
         w.queue.cleared.items (vec_capacity w.queue.cleared) };
 }
 
