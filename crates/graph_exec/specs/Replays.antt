@@ -54,7 +54,7 @@ module _ (Follows : List RunLine → Type 0) (Stopped : List RunLine → RunLine
     pub run : IsStoppedRun s.cluster s.promotions s.whole es old.rest lines call closing journal.events new.rest
     pub told : StopsAmong (λ before at. Stopped (lines ++ before) at) call
 
-  -- the run was made up to a place between two transitions, and each line up to there was told
+  -- the run was made up to where it is in no transition, and each line up to there was told
   pub record IsBetweenTwo : Type 0 where
     pub lines : List RunLine
     pub at : RunStanding

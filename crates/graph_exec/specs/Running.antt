@@ -44,8 +44,8 @@ abbrev pub later : Running → List Event → Running
 later r events = record { cluster = r.cluster; graph = r.graph; planned_at = r.planned_at; since = r.since ++ events; promotions = r.promotions }
 
 -- its journal now, with its cluster and the promotion scores
-abbrev pub known_of : Running → JournalOf
-known_of r = record { cluster = r.cluster; events = r.planned_at ++ r.since; promotions = r.promotions }
+abbrev pub running_journal : Running → JournalOf
+running_journal r = record { cluster = r.cluster; events = r.planned_at ++ r.since; promotions = r.promotions }
 
 -- what the loss of a node ends: each action in flight of a cell on it, in the order of their numbers
 abbrev pub all_gone : Running → ℕ → List Event
