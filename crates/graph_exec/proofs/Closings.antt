@@ -13,7 +13,8 @@ use Rattle.cluster_types.specs.Steps as steps
 use Rattle.cluster_types.specs.Steps.{Transition, StepsOn, HasEnded, IsWaiting, in_flight_by_number, has_aborted, journal, count_from_outside}
 use Rattle.cluster_types.specs.Texts.{event_lines}
 use Rattle.graph_exec.specs.Logs.{JournalOf}
-use Rattle.graph_exec.specs.Running.{Running, Went, going, running_journal}
+use Rattle.graph_exec.specs.Running.{Running, Went, going}
+use Rattle.graph_exec.specs.Inner.Running.{running_journal}
 use Rattle.graph_exec.specs.Telling.{closing_line}
 use Rattle.graph_exec.specs.Transitions.{IsAborted, IsComplete, IsCutBy, WentAsSaid, WentTo}
 use Rattle.graph_exec.specs.Watching.{IsWatcherCutOff, AreLinesTold}

@@ -9,7 +9,8 @@ use Rattle.cluster_types.specs.Answering.{added_by, applies_after}
 use Rattle.cluster_types.specs.Steps.{Transition, action_at, answer_events, in_flight_by_number, is_from_outside, is_number_in_flight, journal, numbers, count_from_outside, resting}
 use Rattle.graph_exec.specs.Logs.{JournalOf}
 use Rattle.graph_exec.specs.Resting.{IsRefusedResting, IsResting, TookResting, resting_at}
-use Rattle.graph_exec.specs.Running.{Running, going, running_journal, later}
+use Rattle.graph_exec.specs.Running.{Running, going, later}
+use Rattle.graph_exec.specs.Inner.Running.{running_journal}
 
 none_flying : (t : Transition) (since : List Event) → t.actions ≡ [] → in_flight_by_number t since ≡ []
 none_flying t since e =

@@ -26,7 +26,8 @@ use Rattle.cluster_types.specs.Tables.{targets_of}
 use Rattle.cluster_types.specs.Texts.{all_passed_lines, end_lines, event_lines, target_lines}
 use Rattle.cluster_types.proofs.SourceLaws.{carries-out}
 use Rattle.graph_exec.specs.Logs.{JournalOf}
-use Rattle.graph_exec.specs.Running.{Running, Went, going, running_journal}
+use Rattle.graph_exec.specs.Running.{Running, Went, going}
+use Rattle.graph_exec.specs.Inner.Running.{running_journal}
 use Rattle.graph_exec.specs.Transitions.{IsAborted, IsComplete, IsCutBy, WentAsSaid, WentTo}
 use Rattle.graph_exec.proofs.Beginning.{found_so}
 use Rattle.graph_exec.proofs.Said.{taken_none}

@@ -13,7 +13,8 @@ use Rattle.cluster_types.specs.Safety.{IsAtRest}
 use Rattle.cluster_types.specs.Steps.{Applies, answer_events, is_from_outside, resting}
 use Rattle.graph_exec.specs.Logs.{JournalOf}
 use Rattle.graph_exec.specs.Promises.{IsGraphPlanned}
-use Rattle.graph_exec.specs.Running.{Running, Went, running_journal}
+use Rattle.graph_exec.specs.Running.{Running, Went}
+use Rattle.graph_exec.specs.Inner.Running.{running_journal}
 use Rattle.graph_exec.specs.Saying.{AgreesOn}
 use Rattle.graph_exec.specs.Transitions.{Accords}
 use Rattle.graph_exec.specs.Inner.Turns.{HasPlannedGraph}

@@ -20,7 +20,7 @@ pub struct Waiting {
 
 impl Model for Waiting {
     ghost use Rattle.std.specs.Prelude.{vec_capacity};
-    ghost use Rattle.graph_exec.specs.Freed.{ClearingRests};
+    ghost use Rattle.graph_exec.specs.Inner.Freed.{ClearingRests};
     ghost use Rattle.graph_exec.specs.Ready.{Progress};
 
     ghost Value = { Progress };
