@@ -1,6 +1,6 @@
 -- A transition that is planned, and what comes of it in its run.
 use Rattle.std.proofs.Common.{◌≡◌, ℕ, Bool, true, List, [], ◌++◌, refl, sym, ap, ◌∙◌, subst}
-use Rattle.std.specs.Prelude.{Option, Result}
+use Rattle.std.specs.Prelude.{Option, Some, Result}
 use Rattle.cluster_types.specs.declared.cluster.Cluster.{Cluster}
 use Rattle.cluster_types.specs.declared.journal.Answer.{Answer}
 use Rattle.cluster_types.specs.declared.journal.Event.{Event}
@@ -83,7 +83,7 @@ module _ (j : JournalOf) (p : Planned) (ready : IsReady j p) where
         (came_planned here_set k j.events p.placed p.executor.graph carries Follows rest over told)
 
     -- and stops
-    pub stops_begun : (Stopped : List RunLine → RunLine → Type 0) → StopsAmong Stopped (plan_lines j.cluster k p.placed) → (journal : Journal)
+    pub stops_begun : (Stopped : List RunLine → Option RunLine → Type 0) → StopsAmong (λ lines at. Stopped lines (Some at)) (plan_lines j.cluster k p.placed) → (journal : Journal)
         → journal ≡ left_of p.executor
         → EndsStopped Follows here_set (due k j.events) (sight rest over) (sight rest over) Stopped journal
     stops_begun Stopped told journal is = record {
@@ -106,8 +106,8 @@ module _ (First Then All : List RunLine → Type 0) (join : (lines more : List R
     same_set : setting d scores whole steady ≡ setting c promotions whole steady
     same_set = ap (λ (x : Cluster). setting x scores whole steady) same ∙ ap (λ (x : List Promotion). setting c x whole steady) like
 
-    pub ends_behind : (StopThen StopAll : List RunLine → RunLine → Type 0)
-        → ((lines more : List RunLine) (at : RunLine) → First lines → StopThen more at → StopAll (lines ++ more) at)
+    pub ends_behind : (StopThen StopAll : List RunLine → Option RunLine → Type 0)
+        → ((lines more : List RunLine) (at : Option RunLine) → First lines → StopThen more at → StopAll (lines ++ more) at)
         → (end : Result Journal ReplayStop) → (steady ≡ true → old.over ≡ true → now.over ≡ true) → RunEndsAs Then (setting d scores whole steady) at now new StopThen end
         → RunEndsAs All (setting c promotions whole steady) from old new StopAll end
     ends_behind StopThen StopAll stop_behind end stays w =
