@@ -86,6 +86,13 @@ impl HeldLines {
         })
     }
 
+    /// The bytes that are held.
+    pub(crate) fn held(&self) -> &[u8]
+        ensures { result.now ≡ self.now.held }
+    {
+        self.window.held()
+    }
+
     /// The line that the last call handed out.
     pub(crate) fn raw(&self) -> &[u8]
         ensures { result.now ≡ self.now.raw }

@@ -127,6 +127,13 @@ impl<'s, S: Source> LineReader<'s, S> {
         self.lines.has_ended()
     }
 
+    /// The bytes that were taken from the source and not handed out yet.
+    pub fn held(&self) -> &[u8]
+        ensures { result.now ≡ (reading_of self.now).held }
+    {
+        self.lines.held()
+    }
+
     /// The physical lines, with their line ends, of the logical line that the last call of `line`
     /// gave; empty where that answered otherwise.
     pub fn raw(&self) -> &[u8]

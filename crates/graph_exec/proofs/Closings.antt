@@ -1,6 +1,6 @@
 -- How a transition of a run is closed, and how the run ends in its midst.
-use Rattle.std.proofs.Common.{◌≡◌, ℕ, Bool, true, false, List, [], ◌∷◌, ◌++◌, append-nil, refl, sym, ap, ◌∙◌, subst}
-use Rattle.std.specs.Prelude.{Option, Some}
+use Rattle.std.proofs.Common.{◌≡◌, ◌⊎◌, inl, inr, ℕ, Bool, true, false, List, [], ◌∷◌, ◌++◌, append-nil, refl, sym, ap, ◌∙◌, subst}
+use Rattle.std.specs.Prelude.{Option, Some, None}
 use Rattle.std.specs.List.{flat_map}
 use Rattle.cluster_types.specs.declared.run.RunLine.{RunLine}
 use Rattle.cluster_types.specs.declared.journal.Answer.{Answer}
@@ -13,15 +13,16 @@ use Rattle.cluster_types.specs.Steps as steps
 use Rattle.cluster_types.specs.Steps.{Transition, StepsOn, HasEnded, IsWaiting, in_flight_by_number, has_aborted, journal, count_from_outside}
 use Rattle.cluster_types.specs.Texts.{event_lines}
 use Rattle.graph_exec.specs.Logs.{JournalOf}
-use Rattle.graph_exec.specs.Running.{Running, Went, going, known_of}
+use Rattle.graph_exec.specs.Running.{Running, Went, going}
+use Rattle.graph_exec.specs.Inner.Running.{running_journal}
 use Rattle.graph_exec.specs.Telling.{closing_line}
 use Rattle.graph_exec.specs.Transitions.{IsAborted, IsComplete, IsCutBy, WentAsSaid, WentTo}
-use Rattle.graph_exec.specs.Watching.{IsWatcherCutOff, AreLinesTold}
+use Rattle.graph_exec.specs.Watching.{IsWatcherCutOff, IsWatcherCutOffAsking, AreLinesTold}
 use Rattle.graph_exec.proofs.Beginning.{found_so}
 use Rattle.graph_exec.proofs.Said.{taken_none}
 use Rattle.run_safety.proofs.SoFar.{runs_once}
 use Rattle.graph_exec.specs.Replays.{Setting, setting, sight}
-use Rattle.graph_exec.specs.Inner.Turns.{HasComeTo, CameTo, EndsBroken, RunEndsCut, EndsStopped, closed_at, left_of}
+use Rattle.graph_exec.specs.Inner.Turns.{HasComeTo, CameTo, EndsBroken, RunEndsCut, EndsStopped, EndsStoppedAsking, closed_at, left_of}
 use Rattle.graph_exec.proofs.Joined.{came_on, came_step}
 use Rattle.graph_exec.proofs.Steps.{came_carried, part_runs, part_said, part_told}
 
@@ -51,7 +52,7 @@ module _ (whole steady : Bool) (k : ℕ) (r now : Running) (fresh : r.since ≡ 
       module _ (complete : Bool)
           (step : (w : Bool) (xs : Option (List Answer)) → RunsOn r.cluster r.promotions w (amid k (going r) now.since) xs (closing_line k complete ∷ []) (closed_at k complete (journal (going r) now.since)) xs) where
         closed_to : (Then All : List RunLine → Type 0) → ((lines more : List RunLine) → First lines → Then more → All (lines ++ more))
-            → (steady ≡ true → over_now ≡ false → WentAsSaid r now rest left) → Then (closing_line k complete ∷ []) → (j : JournalOf) → j ≡ known_of now
+            → (steady ≡ true → over_now ≡ false → WentAsSaid r now rest left) → Then (closing_line k complete ∷ []) → (j : JournalOf) → j ≡ running_journal now
             → CameTo All here_set (amid k (going r) []) (sight rest over) (sight left over_now) (closed_at k complete) j
         closed_to Then All join said closed j is =
             let events : j.events ≡ journal (going r) now.since = ap (λ (x : JournalOf). x.events) is ∙ ap (λ (x : Running). x.planned_at ++ now.since) went.same in
@@ -70,8 +71,8 @@ module _ (whole steady : Bool) (k : ℕ) (r now : Running) (fresh : r.since ≡ 
               came = subst (λ (es : List Event). HasComeTo All here_set (amid k (going r) []) (sight rest over) (sight left over_now) (closed_at k complete es)) (sym events) whole_way;
             }
 
-        closed_short : (All : List RunLine → Type 0) (StopThen Stopped : List RunLine → RunLine → Type 0)
-            → ((lines more : List RunLine) (at : RunLine) → First lines → StopThen more at → Stopped (lines ++ more) at) → StopThen [] (closing_line k complete)
+        closed_short : (All : List RunLine → Type 0) (StopThen Stopped : List RunLine → Option RunLine → Type 0)
+            → ((lines more : List RunLine) (at : Option RunLine) → First lines → StopThen more at → Stopped (lines ++ more) at) → StopThen [] (Some (closing_line k complete))
             → (j : Journal) → j ≡ left_of now → EndsStopped All here_set (amid k (going r) []) (sight rest over) (sight left over_now) Stopped j
         closed_short All StopThen Stopped stop stopped j is = record {
           before = amid k (going r) now.since;
@@ -86,7 +87,7 @@ module _ (whole steady : Bool) (k : ℕ) (r now : Running) (fresh : r.since ≡ 
             at = closing_line k complete;
             behind = [];
             parts = refl;
-            stopped = stop (flat_map event_lines now.since) [] (closing_line k complete) (part_told here_set k r now fresh First told) stopped;
+            stopped = stop (flat_map event_lines now.since) [] (Some (closing_line k complete)) (part_told here_set k r now fresh First told) stopped;
           };
           leaves = is ∙ ap (left_with now.since) went.same
               ∙ ap (with_events r.promotions) (at_closed k complete (journal (going r) now.since));
@@ -106,21 +107,21 @@ module _ (whole steady : Bool) (k : ℕ) (r now : Running) (fresh : r.since ≡ 
 
       module _ (Then All : List RunLine → Type 0) (join : (lines more : List RunLine) → First lines → Then more → All (lines ++ more)) where
         pub closes_complete : IsComplete now → (steady ≡ true → over_now ≡ false → WentAsSaid r now rest left) → Then (closing_line k true ∷ [])
-            → (j : JournalOf) → j ≡ known_of now → CameTo All here_set (amid k (going r) []) (sight rest over) (sight left over_now) (closed_at k true) j
+            → (j : JournalOf) → j ≡ running_journal now → CameTo All here_set (amid k (going r) []) (sight rest over) (sight left over_now) (closed_at k true) j
         closes_complete e said closed j is = closed_to true (complete_step e) Then All join said closed j is
 
         pub closes_aborted : (first : Event) → IsAborted now first → (steady ≡ true → over_now ≡ false → WentAsSaid r now rest left)
-            → Then (closing_line k false ∷ []) → (j : JournalOf) → j ≡ known_of now
+            → Then (closing_line k false ∷ []) → (j : JournalOf) → j ≡ running_journal now
             → CameTo All here_set (amid k (going r) []) (sight rest over) (sight left over_now) (closed_at k false) j
         closes_aborted first e said closed j is = closed_to false (aborted_step first e) Then All join said closed j is
 
-      module _ (All : List RunLine → Type 0) (StopThen Stopped : List RunLine → RunLine → Type 0)
-          (stop : (lines more : List RunLine) (at : RunLine) → First lines → StopThen more at → Stopped (lines ++ more) at) where
-        pub stops_complete : IsComplete now → StopThen [] (closing_line k true) → (j : Journal) → j ≡ left_of now
+      module _ (All : List RunLine → Type 0) (StopThen Stopped : List RunLine → Option RunLine → Type 0)
+          (stop : (lines more : List RunLine) (at : Option RunLine) → First lines → StopThen more at → Stopped (lines ++ more) at) where
+        pub stops_complete : IsComplete now → StopThen [] (Some (closing_line k true)) → (j : Journal) → j ≡ left_of now
             → EndsStopped All here_set (amid k (going r) []) (sight rest over) (sight left over_now) Stopped j
         stops_complete e stopped j is = closed_short true (complete_step e) All StopThen Stopped stop stopped j is
 
-        pub stops_aborted : (first : Event) → IsAborted now first → StopThen [] (closing_line k false) → (j : Journal) → j ≡ left_of now
+        pub stops_aborted : (first : Event) → IsAborted now first → StopThen [] (Some (closing_line k false)) → (j : Journal) → j ≡ left_of now
             → EndsStopped All here_set (amid k (going r) []) (sight rest over) (sight left over_now) Stopped j
         stops_aborted first e stopped j is = closed_short false (aborted_step first e) All StopThen Stopped stop stopped j is
 
@@ -160,7 +161,7 @@ module _ (whole steady : Bool) (k : ℕ) (r now : Running) (fresh : r.since ≡ 
       }
 
   -- the watcher stopped at a step
-  pub stops_amid : (All : List RunLine → Type 0) (Stopped : List RunLine → RunLine → Type 0) → IsWatcherCutOff Stopped whole r now rest left → (j : Journal) → j ≡ left_of now
+  stops_amid : (All : List RunLine → Type 0) (Stopped : List RunLine → Option RunLine → Type 0) → IsWatcherCutOff Stopped whole r now rest left → (j : Journal) → j ≡ left_of now
       → EndsStopped All here_set (amid k (going r) []) (sight rest over) (sight left over_now) Stopped j
   stops_amid All Stopped b j is =
       let same : going b.at ≡ going r = ap going b.went.same in
@@ -178,7 +179,26 @@ module _ (whole steady : Bool) (k : ℕ) (r now : Running) (fresh : r.since ≡ 
           at = b.line;
           behind = [];
           parts = b.line_is;
-          stopped = subst (λ (lines : List RunLine). Stopped lines b.line) (ap (flat_map event_lines) (sym since) ∙ sym (append-nil (flat_map event_lines b.at.since))) b.stopped;
+          stopped = subst (λ (lines : List RunLine). Stopped lines (Some b.line)) (ap (flat_map event_lines) (sym since) ∙ sym (append-nil (flat_map event_lines b.at.since))) b.stopped;
         };
         leaves = is ∙ ap left_of b.last ∙ ap (left_with (b.at.since ++ b.events)) b.went.same;
       }
+
+  -- or as the source was about to be asked
+  stops_asking : (All : List RunLine → Type 0) (Stopped : List RunLine → Option RunLine → Type 0) → Went whole r now rest left → IsWatcherCutOffAsking Stopped r now → (j : Journal)
+      → j ≡ left_of now → EndsStoppedAsking All here_set (amid k (going r) []) (sight rest over) (sight left over_now) Stopped j
+  stops_asking All Stopped went b j is = record {
+    last = amid k (going r) now.since;
+    lines = flat_map event_lines now.since;
+    runs = part_runs r.cluster r.promotions whole k (going r) r.since now.since rest left fresh went.steps;
+    told = part_told here_set k r now fresh (λ lines. Stopped lines None) b.told;
+    asking = subst (λ (t : Transition). IsWaiting t now.since) (ap going went.same) b.waiting;
+    leaves = is ∙ ap (left_with now.since) went.same;
+  }
+
+  pub stops_either : (All : List RunLine → Type 0) (Stopped : List RunLine → Option RunLine → Type 0) → Went whole r now rest left
+      → IsWatcherCutOff Stopped whole r now rest left ⊎ IsWatcherCutOffAsking Stopped r now → (j : Journal) → j ≡ left_of now
+      → EndsStopped All here_set (amid k (going r) []) (sight rest over) (sight left over_now) Stopped j
+      ⊎ EndsStoppedAsking All here_set (amid k (going r) []) (sight rest over) (sight left over_now) Stopped j
+  stops_either All Stopped went (inl b) j is = inl (stops_amid All Stopped b j is)
+  stops_either All Stopped went (inr b) j is = inr (stops_asking All Stopped went b j is)

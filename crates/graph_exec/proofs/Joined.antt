@@ -1,6 +1,6 @@
 -- What came of one part of a run, and then of the next, is what came of both.
-use Rattle.std.proofs.Common.{◌≡◌, true, false, List, [], ◌++◌, append_assoc, sym, subst}
-use Rattle.std.specs.Prelude.{Option, Some, Result, Ok, Err}
+use Rattle.std.proofs.Common.{◌≡◌, inl, inr, true, false, List, [], ◌++◌, append_assoc, sym, subst}
+use Rattle.std.specs.Prelude.{Option, Some, None, Result, Ok, Err}
 use Rattle.lemmas.proofs.Booleans.{fails_too}
 use Rattle.cluster_types.specs.declared.journal.Answer.{Answer}
 use Rattle.cluster_types.specs.declared.journal.Journal.{Journal}
@@ -54,16 +54,17 @@ module _ (s : Setting) where
     }
 
     -- and so it is with how the run ends
-    module _ (StopThen StopAll : List RunLine → RunLine → Type 0)
-        (stop_behind : (lines more : List RunLine) (at : RunLine) → First lines → StopThen more at → StopAll (lines ++ more) at) where
-      stops_on : (lines call : List RunLine) → StopsAmong (λ before at. StopThen (lines ++ before) at) call
-          → StopsAmong (λ before at. StopAll ((one.lines ++ lines) ++ before) at) call
+    module _ (StopThen StopAll : List RunLine → Option RunLine → Type 0)
+        (stop_behind : (lines more : List RunLine) (at : Option RunLine) → First lines → StopThen more at → StopAll (lines ++ more) at) where
+      stops_on : (lines call : List RunLine) → StopsAmong (λ before at. StopThen (lines ++ before) (Some at)) call
+          → StopsAmong (λ before at. StopAll ((one.lines ++ lines) ++ before) (Some at)) call
       stops_on lines call t = record {
         before = t.before;
         at = t.at;
         behind = t.behind;
         parts = t.parts;
-        stopped = subst (λ (ls : List RunLine). StopAll ls t.at) (sym (append_assoc one.lines lines t.before)) (stop_behind one.lines (lines ++ t.before) t.at one.told t.stopped);
+        stopped = subst (λ (ls : List RunLine). StopAll ls (Some t.at)) (sym (append_assoc one.lines lines t.before))
+            (stop_behind one.lines (lines ++ t.before) (Some t.at) one.told t.stopped);
       }
 
       pub ends_on : (end : Result Journal ReplayStop) → (s.steady ≡ true → a.over ≡ true → b.over ≡ true) → RunEndsAs Then s middle b c StopThen end
@@ -95,7 +96,7 @@ module _ (s : Setting) where
         not_over = λ steady. fails_too a.over b.over (stays steady) (w.not_over steady);
         leaves = w.leaves;
       }
-      ends_on (Err (stop.Stopped journal)) stays w = record {
+      ends_on (Err (stop.Stopped journal)) stays (inl w) = inl (record {
         before = w.before;
         next = w.next;
         middle = w.middle;
@@ -105,7 +106,15 @@ module _ (s : Setting) where
         step = w.step;
         told = stops_on w.lines w.call w.told;
         leaves = w.leaves;
-      }
+      })
+      ends_on (Err (stop.Stopped journal)) stays (inr w) = inr (record {
+        last = w.last;
+        lines = one.lines ++ w.lines;
+        runs = joined w.last c.rest w.lines w.runs;
+        told = stop_behind one.lines w.lines None one.told w.told;
+        asking = w.asking;
+        leaves = w.leaves;
+      })
       ends_on (Err (stop.Most journal)) stays w = absurd w
       ends_on (Err stop.NoMemory) stays w = record {
         at = w.at;

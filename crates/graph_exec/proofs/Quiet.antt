@@ -17,7 +17,7 @@ use Rattle.graph_exec.specs.declared.run.run_ending.RunEnd.{RunEnd}
 use Rattle.graph_exec.specs.declared.run.run_ending.RunEnd.TheVariants as run
 use Rattle.graph_exec.specs.Inner.Keeping.{HasRestingFailed, IsAnswered, IsRestingRefused, IsSilent, IsUnanswered, watched_end}
 use Rattle.graph_exec.specs.Replays.{Setting, setting, sight}
-use Rattle.graph_exec.specs.Inner.Turns.{HasComeTo, CameTo, RunEndsAs, EndsBroken, RunEndsCut, EndsStopped, EndsWhole, IsSaid, plain_of}
+use Rattle.graph_exec.specs.Inner.Turns.{HasComeTo, CameTo, RunEndsAs, EndsBroken, RunEndsCut, EndsStopped, EndsStoppedAsking, EndsWhole, IsSaid, plain_of}
 use Rattle.graph_exec.proofs.Joined.{came_step, said_none}
 
 -- where nothing more is said, the answers to come stay as they were
@@ -62,6 +62,18 @@ module _ (whole steady : Bool) (k : ℕ) (j : JournalOf) (rest : Option (List An
         leaves = is;
       }
 
+      -- the watcher stops as the source is about to be asked
+      pub is_stopped_asking : left ≡ rest → (Stopped : List RunLine → Option RunLine → Type 0) → Stopped [] None → (journal : Journal) → journal ≡ plain_of j
+          → EndsStoppedAsking Follows here_set (idle k j.events) (sight rest over) (sight left over_now) Stopped journal
+      is_stopped_asking same Stopped stopped journal is = record {
+        last = idle k j.events;
+        lines = [];
+        runs = runs_nowhere same;
+        told = stopped;
+        asking = tt;
+        leaves = is;
+      }
+
       module _ (given : Answer) (said : Says whole rest (Some given) left) where
         is_cut : Follows [] → (back : JournalOf) → IsRefusedResting j back given → (journal : Journal) → journal ≡ plain_of back
             → RunEndsCut Follows here_set (idle k j.events) (sight rest over) (sight left over_now) journal given
@@ -95,7 +107,7 @@ module _ (whole steady : Bool) (k : ℕ) (j : JournalOf) (rest : Option (List An
                 }));
           }
 
-          pub is_stopped : (Stopped : List RunLine → RunLine → Type 0) → Stopped [] (line.Taken given) → (journal : Journal) → journal ≡ plain_of next
+          pub is_stopped : (Stopped : List RunLine → Option RunLine → Type 0) → Stopped [] (Some (line.Taken given)) → (journal : Journal) → journal ≡ plain_of next
               → EndsStopped Follows here_set (idle k j.events) (sight rest over) (sight left over_now) Stopped journal
           is_stopped Stopped stopped journal is = record {
             before = idle k j.events;
@@ -110,7 +122,7 @@ module _ (whole steady : Bool) (k : ℕ) (j : JournalOf) (rest : Option (List An
           }
 
       -- no answer came that applies
-      pub ends_unanswered : Follows [] → (Stopped : List RunLine → RunLine → Type 0) (end : RunEnd) → IsUnanswered whole j rest left over end
+      pub ends_unanswered : Follows [] → (Stopped : List RunLine → Option RunLine → Type 0) (end : RunEnd) → IsUnanswered whole j rest left over end
           → RunEndsAs Follows here_set (idle k j.events) (sight rest over) (sight left over_now) Stopped (watched_end end)
       ends_unanswered none Stopped (run.Whole journal) w = is_over none w.said journal w.leaves
       ends_unanswered none Stopped (run.Unexpected journal given) w = is_cut given w.said none w.back w.refused journal w.leaves

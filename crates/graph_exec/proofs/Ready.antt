@@ -1,6 +1,6 @@
 -- A transition that is planned, and what comes of it in its run.
 use Rattle.std.proofs.Common.{◌≡◌, ℕ, Bool, true, List, [], ◌++◌, refl, sym, ap, ◌∙◌, subst}
-use Rattle.std.specs.Prelude.{Option, Result}
+use Rattle.std.specs.Prelude.{Option, Some, Result}
 use Rattle.cluster_types.specs.declared.cluster.Cluster.{Cluster}
 use Rattle.cluster_types.specs.declared.journal.Answer.{Answer}
 use Rattle.cluster_types.specs.declared.journal.Event.{Event}
@@ -15,7 +15,8 @@ use Rattle.cluster_types.specs.Steps.{Transition}
 use Rattle.cluster_types.specs.Valid.{IsValid}
 use Rattle.graph_exec.specs.Logs.{JournalOf}
 use Rattle.graph_exec.specs.Promises.{IsGraphPlanned}
-use Rattle.graph_exec.specs.Running.{Running, Went, going, known_of}
+use Rattle.graph_exec.specs.Running.{Running, Went, going}
+use Rattle.graph_exec.specs.Inner.Running.{running_journal}
 use Rattle.graph_exec.specs.Telling.{StopsAmong, plan_lines}
 use Rattle.graph_exec.specs.Transitions.{Accords}
 use Rattle.graph_exec.specs.declared.run.planning.Planned.{Planned}
@@ -64,7 +65,7 @@ module _ (j : JournalOf) (p : Planned) (ready : IsReady j p) where
         (carried (accords_first before p.executor has_plan.planned.at_rest.1 starts_fresh
         (subst (λ (c : Cluster). before c p.executor.planned_at 0) (sym same_cluster) (subst (λ (x : List Event). before j.cluster x 0) (sym same_events) h)))) es is)
 
-    pub later_cluster : (later : JournalOf) → later ≡ known_of now → later.cluster ≡ j.cluster
+    pub later_cluster : (later : JournalOf) → later ≡ running_journal now → later.cluster ≡ j.cluster
     later_cluster later known = ap (λ (x : JournalOf). x.cluster) known ∙ stays_there whole p.executor now rest left went ∙ same_cluster
 
   same_going : (t : Transition) → t ≡ going p.executor → t ≡ going (fresh_on j p.executor.graph)
@@ -82,7 +83,7 @@ module _ (j : JournalOf) (p : Planned) (ready : IsReady j p) where
         (came_planned here_set k j.events p.placed p.executor.graph carries Follows rest over told)
 
     -- and stops
-    pub stops_begun : (Stopped : List RunLine → RunLine → Type 0) → StopsAmong Stopped (plan_lines j.cluster k p.placed) → (journal : Journal)
+    pub stops_begun : (Stopped : List RunLine → Option RunLine → Type 0) → StopsAmong (λ lines at. Stopped lines (Some at)) (plan_lines j.cluster k p.placed) → (journal : Journal)
         → journal ≡ left_of p.executor
         → EndsStopped Follows here_set (due k j.events) (sight rest over) (sight rest over) Stopped journal
     stops_begun Stopped told journal is = record {
@@ -105,8 +106,8 @@ module _ (First Then All : List RunLine → Type 0) (join : (lines more : List R
     same_set : setting d scores whole steady ≡ setting c promotions whole steady
     same_set = ap (λ (x : Cluster). setting x scores whole steady) same ∙ ap (λ (x : List Promotion). setting c x whole steady) like
 
-    pub ends_behind : (StopThen StopAll : List RunLine → RunLine → Type 0)
-        → ((lines more : List RunLine) (at : RunLine) → First lines → StopThen more at → StopAll (lines ++ more) at)
+    pub ends_behind : (StopThen StopAll : List RunLine → Option RunLine → Type 0)
+        → ((lines more : List RunLine) (at : Option RunLine) → First lines → StopThen more at → StopAll (lines ++ more) at)
         → (end : Result Journal ReplayStop) → (steady ≡ true → old.over ≡ true → now.over ≡ true) → RunEndsAs Then (setting d scores whole steady) at now new StopThen end
         → RunEndsAs All (setting c promotions whole steady) from old new StopAll end
     ends_behind StopThen StopAll stop_behind end stays w =

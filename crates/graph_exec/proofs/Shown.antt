@@ -1,6 +1,6 @@
 -- What a watcher has been shown, step by step.
 use Rattle.std.proofs.Common.{◌≡◌, ◌++◌, ◌∷◌, [], ℕ, Bool, true, Option, Some, None, List, append-nil, append_assoc, refl, sym, ap, subst, ◌∙◌}
-use Rattle.std.specs.Prelude.{Result, Ok, Err}
+use Rattle.std.specs.Prelude.{Result}
 use Rattle.std.specs.List.{flat_map}
 use Rattle.cluster_types.specs.declared.cluster.Cluster.{Cluster}
 use Rattle.cluster_types.specs.declared.journal.Action.{Action}
@@ -45,6 +45,10 @@ IsShownAnswers Shown Now given =
     → Now (view_later v (added_by v.cluster v.events flight given))
 
 module _ (Shown Now : RunView → Type 0) where
+  -- what it has been shown stays so
+  pub shown_on : (r : Running) → ((v : RunView) → Shown v → Now v) → IsShownAll Shown r → IsShownAll Now r
+  shown_on r on h = record { idle = h.idle; shown_now = on (view_of r) h.shown_now }
+
   pub shown_later : (old new : Running) (events : List Event) → new ≡ later old events → (Shown (view_of old) → Now (view_later (view_of old) events)) → IsShownAll Shown old
       → IsShownAll Now new
   shown_later old new events is on h =

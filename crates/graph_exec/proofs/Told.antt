@@ -1,5 +1,5 @@
 -- What a watcher was told, step by step.
-use Rattle.std.proofs.Common.{◌≡◌, ℕ, Bool, Option, List, [], ◌∷◌, ◌++◌, append-nil, append_assoc, refl, sym, ap, ◌∙◌, subst}
+use Rattle.std.proofs.Common.{◌≡◌, inl, inr, ℕ, Bool, Option, Some, None, List, [], ◌∷◌, ◌++◌, append-nil, append_assoc, refl, sym, ap, ◌∙◌, subst}
 use Rattle.std.specs.List.{flat_map}
 use Rattle.std.proofs.lemmas.Grind.{flat_map-append}
 use Rattle.cluster_types.specs.declared.journal.Answer.{Answer}
@@ -7,7 +7,7 @@ use Rattle.cluster_types.specs.declared.journal.Event.{Event}
 use Rattle.cluster_types.specs.declared.journal.Event.TheVariants.{Begin}
 use Rattle.cluster_types.specs.declared.run.RunLine.{RunLine}
 use Rattle.cluster_types.specs.declared.run.RunLine.TheVariants as line
-use Rattle.cluster_types.specs.Steps.{StepsOn, begins}
+use Rattle.cluster_types.specs.Steps.{IsWaiting, StepsOn, begins}
 use Rattle.cluster_types.specs.Texts.{event_lines}
 use Rattle.graph_exec.specs.declared.transition.ends.WatchedEnd.{WatchedEnd}
 use Rattle.graph_exec.specs.declared.transition.ends.WatchedEnd.TheVariants as how
@@ -31,13 +31,13 @@ module _ (First Then All : List RunLine → Type 0) (join : (lines more : List R
     told = subst All (sym (flat_map-append event_lines a.events b.events)) (join (flat_map event_lines a.events) (flat_map event_lines b.events) a.told b.told);
   }
 
-  module _ (StopThen StopAll : List RunLine → RunLine → Type 0)
-      (stop : (lines more : List RunLine) (at : RunLine) → First lines → StopThen more at → StopAll (lines ++ more) at)
+  module _ (StopThen StopAll : List RunLine → Option RunLine → Type 0)
+      (stop : (lines more : List RunLine) (at : Option RunLine) → First lines → StopThen more at → StopAll (lines ++ more) at)
       (whole : Bool) (first middle last : Running) (rest between left : Option (List Answer)) where
     pub hears_on : (h : Heard) → Went whole first middle rest between → AreLinesTold First first middle → Hears Then StopThen whole middle last between left h
         → Hears All StopAll whole first last rest left h
     hears_on heard.Go w a b = told_on first middle last a b
-    hears_on heard.Stop w a b = record {
+    hears_on heard.Stop w a (inl b) = inl (record {
       at = b.at;
       middle = b.middle;
       before = a.events ++ b.before;
@@ -48,18 +48,27 @@ module _ (First Then All : List RunLine → Type 0) (join : (lines more : List R
       step = b.step;
       last = b.last;
       line_is = b.line_is;
-      stopped = subst (λ (lines : List RunLine). StopAll lines b.line) (sym (flat_map-append event_lines a.events b.before))
-          (stop (flat_map event_lines a.events) (flat_map event_lines b.before) b.line a.told b.stopped);
-    }
+      stopped = subst (λ (lines : List RunLine). StopAll lines (Some b.line)) (sym (flat_map-append event_lines a.events b.before))
+          (stop (flat_map event_lines a.events) (flat_map event_lines b.before) (Some b.line) a.told b.stopped);
+    })
+    hears_on heard.Stop w a (inr b) = inr (record {
+      waiting = b.waiting;
+      told = record {
+        events = a.events ++ b.told.events;
+        happened = b.told.happened ∙ ap (λ (es : List Event). es ++ b.told.events) a.happened ∙ append_assoc first.since a.events b.told.events;
+        told = subst (λ (lines : List RunLine). StopAll lines None) (sym (flat_map-append event_lines a.events b.told.events))
+            (stop (flat_map event_lines a.events) (flat_map event_lines b.told.events) None a.told b.told.told);
+      };
+    })
 
-module _ (Follows : List RunLine → Type 0) (Stopped : List RunLine → RunLine → Type 0) (whole : Bool) (old new : Running) (rest left : Option (List Answer)) where
+module _ (Follows : List RunLine → Type 0) (Stopped : List RunLine → Option RunLine → Type 0) (whole : Bool) (old new : Running) (rest left : Option (List Answer)) where
   -- one step, of one line
   hears_step : (events : List Event) (said : RunLine) → StepsOn (going old) whole old.since rest events left → new ≡ later old events
-      → flat_map event_lines events ≡ said ∷ [] → (h : Heard) → (h ≡ heard.Go → Follows (said ∷ [])) → (h ≡ heard.Stop → Stopped [] said)
+      → flat_map event_lines events ≡ said ∷ [] → (h : Heard) → (h ≡ heard.Go → Follows (said ∷ [])) → (h ≡ heard.Stop → Stopped [] (Some said))
       → Hears Follows Stopped whole old new rest left h
   hears_step events said step goes_on lines heard.Go follows stopped =
       record { events = events; happened = ap (λ (r : Running). r.since) goes_on; told = subst Follows (sym lines) (follows refl) }
-  hears_step events said step goes_on lines heard.Stop follows stopped = record {
+  hears_step events said step goes_on lines heard.Stop follows stopped = inl (record {
     at = old;
     middle = rest;
     before = [];
@@ -71,18 +80,23 @@ module _ (Follows : List RunLine → Type 0) (Stopped : List RunLine → RunLine
     last = goes_on;
     line_is = lines;
     stopped = stopped refl;
-  }
+  })
 
   pub hears_begin : (k : ℕ) (b : BeginsNow old new k) (h : Heard) → left ≡ rest → (h ≡ heard.Go → Follows (line.Begin k b.action ∷ []))
-      → (h ≡ heard.Stop → Stopped [] (line.Begin k b.action)) → Hears Follows Stopped whole old new rest left h
+      → (h ≡ heard.Stop → Stopped [] (Some (line.Begin k b.action))) → Hears Follows Stopped whole old new rest left h
   hears_begin k b h same follows stopped =
       hears_step (Begin k b.action ∷ []) (line.Begin k b.action)
       (subst (λ (x : Option (List Answer)). StepsOn (going old) whole old.since rest (Begin k b.action ∷ []) x) (sym same) (begins rest k b.action b.begins)) b.goes_on refl
       h follows stopped
 
   pub hears_answer : (given : Answer) (a : Answered whole old new rest left given) (h : Heard) → (h ≡ heard.Go → Follows (line.Taken given ∷ []))
-      → (h ≡ heard.Stop → Stopped [] (line.Taken given)) → Hears Follows Stopped whole old new rest left h
+      → (h ≡ heard.Stop → Stopped [] (Some (line.Taken given))) → Hears Follows Stopped whole old new rest left h
   hears_answer given a h follows stopped = hears_step a.events (line.Taken given) a.step a.goes_on a.lines h follows stopped
+
+  -- the watcher stops as the source is about to be asked
+  pub hears_asking : IsWaiting (going old) old.since → new ≡ old → Stopped [] None → Hears Follows Stopped whole old new rest left heard.Stop
+  hears_asking waiting same stopped =
+      rw same (inr (record { waiting = waiting; told = told_nothing (λ lines. Stopped lines None) stopped old }))
 
   -- where no answer was taken, nothing is told
   pub hears_none : Follows [] → (end : WatchedEnd) → StopsAs whole old new rest left end → Hears Follows Stopped whole old new rest left (heard_at end)

@@ -1,5 +1,5 @@
 -- A run from its beginning, by how it ended.
-use Rattle.std.proofs.Common.{◌≡◌, ℕ, ◌+◌, Bool, false, List, [], ◌++◌, append-nil, refl, sym, ap, subst}
+use Rattle.std.proofs.Common.{◌≡◌, inl, inr, ℕ, ◌+◌, Bool, false, List, [], ◌++◌, append-nil, refl, sym, ap, subst}
 use Rattle.std.specs.Prelude.{Option, Result, Ok, Err}
 use Rattle.cluster_types.specs.declared.cluster.Cluster.{Cluster}
 use Rattle.cluster_types.specs.declared.journal.Answer.{Answer}
@@ -30,7 +30,7 @@ abbrev pub events_in : Journal → List Event
 events_in j = j.events
 
 module _ (Follows : List RunLine → Type 0) (s : Setting) (es : List Event) (a b : Sight) where
-  pub replays : (Stopped : List RunLine → RunLine → Type 0) (most : ℕ) (end : Result Journal ReplayStop) → RunEndsAs Follows s (due 1 es) a b Stopped end
+  pub replays : (Stopped : List RunLine → Option RunLine → Type 0) (most : ℕ) (end : Result Journal ReplayStop) → RunEndsAs Follows s (due 1 es) a b Stopped end
       → ReplaysAs Follows Stopped s es a b most end
   replays Stopped most (Ok journal) w = record {
     lines = w.lines;
@@ -62,7 +62,7 @@ module _ (Follows : List RunLine → Type 0) (s : Setting) (es : List Event) (a 
     };
     told = w.told;
   }
-  replays Stopped most (Err (stop.Stopped journal)) w = record {
+  replays Stopped most (Err (stop.Stopped journal)) (inl w) = inl (record {
     lines = w.lines;
     call = w.call;
     closing = [];
@@ -77,11 +77,16 @@ module _ (Follows : List RunLine → Type 0) (s : Setting) (es : List Event) (a 
       leaves = ap events_in w.leaves;
     };
     told = w.told;
-  }
+  })
+  replays Stopped most (Err (stop.Stopped journal)) (inr w) = inr (record {
+    lines = w.lines;
+    run = record { last = w.last; steps = w.runs; asking = w.asking; leaves = ap events_in w.leaves };
+    told = w.told;
+  })
   replays Stopped most (Err (stop.Most journal)) w = absurd w
   replays Stopped most (Err stop.NoMemory) w = record { lines = w.lines; at = w.at; run = w.runs; between = w.between; told = w.told }
 
-  pub up_to : (Stopped : List RunLine → RunLine → Type 0) (most : ℕ) (journal : Journal) (left : List Event) → journal.events ≡ left → HasComeTo Follows s (due 1 es) a b (due (most + 1) left)
+  pub up_to : (Stopped : List RunLine → Option RunLine → Type 0) (most : ℕ) (journal : Journal) (left : List Event) → journal.events ≡ left → HasComeTo Follows s (due 1 es) a b (due (most + 1) left)
       → IsTold Follows Stopped s es a b journal (at_most most)
   up_to Stopped most journal left is w = record {
     lines = w.lines;
@@ -100,11 +105,12 @@ module _ (Follows : List RunLine → Type 0) (s : Setting) (es : List Event) (a 
       promotions_stay = ap (λ (j : Journal). j.promotions) is;
     }
 
-    pub kept : (Stopped : List RunLine → RunLine → Type 0) (end : Result Journal ReplayStop) → RunEndsAs Follows s (due 1 es) a b Stopped end → OfJournal (IsJournalKept s.promotions) end
+    pub kept : (Stopped : List RunLine → Option RunLine → Type 0) (end : Result Journal ReplayStop) → RunEndsAs Follows s (due 1 es) a b Stopped end → OfJournal (IsJournalKept s.promotions) end
     kept Stopped (Ok journal) w = kept_at w.last b.rest w.lines w.runs journal w.leaves
     kept Stopped (Err (stop.Unexpected journal given)) w = kept_at w.last w.unread w.lines w.runs journal w.leaves
     kept Stopped (Err (stop.SourceFault journal)) w = kept_at w.last b.rest w.lines w.runs journal w.leaves
-    kept Stopped (Err (stop.Stopped journal)) w =
+    kept Stopped (Err (stop.Stopped journal)) (inr w) = kept_at w.last b.rest w.lines w.runs journal w.leaves
+    kept Stopped (Err (stop.Stopped journal)) (inl w) =
         kept_at w.next b.rest (w.lines ++ w.call)
         (runs_more s.cluster s.promotions s.whole (due 1 es) w.before w.next a.rest w.middle b.rest w.lines w.call w.runs w.step) journal w.leaves
     kept Stopped (Err (stop.Most journal)) w = absurd w
@@ -118,7 +124,7 @@ module _ (Follows : List RunLine → Type 0) (s : Setting) (es : List Event) (a 
     }
 
 -- no memory is left before the first transition
-pub nothing_made : (Follows : List RunLine → Type 0) (Stopped : List RunLine → RunLine → Type 0) → Follows [] → (s : Setting) (es : List Event) (a : Sight)
+pub nothing_made : (Follows : List RunLine → Type 0) (Stopped : List RunLine → Option RunLine → Type 0) → Follows [] → (s : Setting) (es : List Event) (a : Sight)
     → IsBetweenTwo Follows Stopped s es a a
 nothing_made Follows Stopped none s es a = record { lines = []; at = due 1 es; run = here (due 1 es) a.rest; between = tt; told = none }
 

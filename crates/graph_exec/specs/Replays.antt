@@ -1,6 +1,6 @@
 -- What a replay makes: a run from a journal on, of which a watcher is told the lines (Pacemaker Administration, "Transitions"; when a run ends is a
 -- rule of this project).
-use Rattle.std.specs.Prelude.{◌≡◌, ◌++◌, ℕ, Bool, Option, Result, Ok, Err, List}
+use Rattle.std.specs.Prelude.{◌≡◌, ◌⊎◌, ◌++◌, ℕ, Bool, Option, Some, None, Result, Ok, Err, List}
 use Rattle.cluster_types.specs.declared.cluster.Cluster.{Cluster}
 use Rattle.cluster_types.specs.declared.journal.Action.{Action}
 use Rattle.cluster_types.specs.declared.journal.Answer.{Answer}
@@ -9,7 +9,7 @@ use Rattle.cluster_types.specs.declared.journal.Journal.{Journal}
 use Rattle.cluster_types.specs.declared.journal.Promotion.{Promotion}
 use Rattle.cluster_types.specs.declared.run.RunLine.{RunLine}
 use Rattle.cluster_types.specs.Journals.{Orderly}
-use Rattle.cluster_types.specs.Runs.{RunStanding, due, Runs, IsBetween, IsStoppedRun}
+use Rattle.cluster_types.specs.Runs.{RunStanding, due, Runs, IsBetween, IsRunSoFar, IsStoppedRun}
 use Rattle.graph_exec.specs.Lasting.{LastWord, none_failed, word_is}
 use Rattle.graph_exec.specs.RunEnds.{EndOfRun, EndsSo, at_most, in_failure, unexpected, with_all}
 use Rattle.graph_exec.specs.Telling.{RunView, StopsAmong, view_between}
@@ -38,8 +38,8 @@ pub record Sight : Type 0 where
 abbrev pub sight : Option (List Answer) → Bool → Sight
 sight rest over = record { rest = rest; over = over }
 
--- what the watcher has come to, of some lines: it went on by them, or stopped at the line behind them
-module _ (Follows : List RunLine → Type 0) (Stopped : List RunLine → RunLine → Type 0) (s : Setting) (es : List Event) (old new : Sight) where
+-- what the watcher has come to, of some lines: it went on by them, or stopped behind them, at a line or as the source was about to be asked
+module _ (Follows : List RunLine → Type 0) (Stopped : List RunLine → Option RunLine → Type 0) (s : Setting) (es : List Event) (old new : Sight) where
   -- the run ended so, and each of its lines was told
   pub record IsTold (journal : Journal) (end : EndOfRun) : Type 0 where
     pub lines : List RunLine
@@ -52,9 +52,15 @@ module _ (Follows : List RunLine → Type 0) (Stopped : List RunLine → RunLine
     pub call : List RunLine
     pub closing : List RunLine
     pub run : IsStoppedRun s.cluster s.promotions s.whole es old.rest lines call closing journal.events new.rest
-    pub told : StopsAmong (λ before at. Stopped (lines ++ before) at) call
+    pub told : StopsAmong (λ before at. Stopped (lines ++ before) (Some at)) call
 
-  -- the run was made up to a place between two transitions, and each line up to there was told
+  -- the run was made up to where an answer is asked for, and the watcher stopped before that: each line up to there was told
+  pub record IsStoppedAsking (journal : Journal) : Type 0 where
+    pub lines : List RunLine
+    pub run : IsRunSoFar s.cluster s.promotions s.whole es old.rest lines journal.events new.rest
+    pub told : Stopped lines None
+
+  -- the run was made up to where it is in no transition, and each line up to there was told
   pub record IsBetweenTwo : Type 0 where
     pub lines : List RunLine
     pub at : RunStanding
@@ -67,7 +73,7 @@ module _ (Follows : List RunLine → Type 0) (Stopped : List RunLine → RunLine
   ReplaysAs most (Ok journal) = IsTold journal with_all
   ReplaysAs most (Err (stop.Unexpected journal given)) = IsTold journal (unexpected given)
   ReplaysAs most (Err (stop.SourceFault journal)) = IsTold journal in_failure
-  ReplaysAs most (Err (stop.Stopped journal)) = IsStopped journal
+  ReplaysAs most (Err (stop.Stopped journal)) = IsStopped journal ⊎ IsStoppedAsking journal
   ReplaysAs most (Err (stop.Most journal)) = IsTold journal (at_most most)
   ReplaysAs most (Err stop.NoMemory) = IsBetweenTwo
 
@@ -102,6 +108,11 @@ IsShownEnd Shown c promotions (Err (stop.SourceFault journal)) = IsShownTo Shown
 IsShownEnd Shown c promotions (Err (stop.Stopped journal)) = IsShownTo Shown c promotions heard.Stop journal.events
 IsShownEnd Shown c promotions (Err (stop.Most journal)) = Shown heard.Go (view_between c promotions journal.events)
 IsShownEnd Shown c promotions (Err stop.NoMemory) = Unit {0}
+
+-- where the source has failed as it waited for what comes next, the watcher held nothing back
+abbrev pub IsQuietInFault : Type 0 → Type 0 → Result Journal ReplayStop → Type 0
+IsQuietInFault broke quiet (Err (stop.SourceFault journal)) = broke → quiet
+IsQuietInFault broke quiet _ = Unit {0}
 
 -- no answer came that doesn't apply
 abbrev pub IsReplayExpected : Result Journal ReplayStop → Type 0

@@ -1,11 +1,11 @@
 -- What a watcher was told of a transition, from one moment of it to another, and what it was shown (rule of this project).
-use Rattle.std.specs.Prelude.{◌≡◌, ◌++◌, ◌∷◌, [], Bool, Option, Some, None, List}
+use Rattle.std.specs.Prelude.{◌≡◌, ◌⊎◌, ◌++◌, ◌∷◌, [], Bool, Option, Some, None, List}
 use Rattle.std.specs.List.{flat_map}
 use Rattle.cluster_types.specs.declared.journal.Answer.{Answer}
 use Rattle.cluster_types.specs.declared.journal.Event.{Event}
 use Rattle.cluster_types.specs.declared.run.RunLine.{RunLine}
 use Rattle.cluster_types.specs.Journals.{in_flight_by_begin}
-use Rattle.cluster_types.specs.Steps.{StepsOn}
+use Rattle.cluster_types.specs.Steps.{IsWaiting, StepsOn}
 use Rattle.cluster_types.specs.Texts.{event_lines}
 use Rattle.graph_exec.specs.declared.transition.ends.End.{End}
 use Rattle.graph_exec.specs.declared.transition.ends.End.TheVariants as plain
@@ -39,7 +39,7 @@ pub record AreLinesTold (Follows : List RunLine → Type 0) (old new : Running) 
   pub told : Follows (flat_map event_lines events)
 
 -- the watcher stopped at the line of the last step, behind the lines of all steps before it
-pub record IsWatcherCutOff (Stopped : List RunLine → RunLine → Type 0) (whole : Bool) (old new : Running) (rest left : Option (List Answer)) : Type 0 where
+pub record IsWatcherCutOff (Stopped : List RunLine → Option RunLine → Type 0) (whole : Bool) (old new : Running) (rest left : Option (List Answer)) : Type 0 where
   pub at : Running
   pub middle : Option (List Answer)
   pub before : List Event
@@ -50,11 +50,21 @@ pub record IsWatcherCutOff (Stopped : List RunLine → RunLine → Type 0) (whol
   pub step : StepsOn (going at) whole at.since middle events left
   pub last : new ≡ later at events
   pub line_is : flat_map event_lines events ≡ line ∷ []
-  pub stopped : Stopped (flat_map event_lines before) line
+  pub stopped : Stopped (flat_map event_lines before) (Some line)
 
-abbrev pub Hears : (List RunLine → Type 0) → (List RunLine → RunLine → Type 0) → Bool → Running → Running → Option (List Answer) → Option (List Answer) → Heard → Type 0
+-- or as the source was about to be asked, behind the lines of all that has happened
+pub record IsWatcherCutOffAsking (Stopped : List RunLine → Option RunLine → Type 0) (old new : Running) : Type 0 where
+  pub waiting : IsWaiting (going new) new.since
+  pub told : AreLinesTold (λ lines. Stopped lines None) old new
+
+abbrev pub Hears : (List RunLine → Type 0) → (List RunLine → Option RunLine → Type 0) → Bool → Running → Running → Option (List Answer) → Option (List Answer) → Heard → Type 0
 Hears Follows Stopped whole old new rest left heard.Go = AreLinesTold Follows old new
-Hears Follows Stopped whole old new rest left heard.Stop = IsWatcherCutOff Stopped whole old new rest left
+Hears Follows Stopped whole old new rest left heard.Stop = IsWatcherCutOff Stopped whole old new rest left ⊎ IsWatcherCutOffAsking Stopped old new
+
+-- where the source has failed as it waited for what comes next, the watcher held nothing back
+abbrev pub IsQuietAt : Type 0 → Type 0 → WatchedEnd → Type 0
+IsQuietAt broke quiet how.SourceFault = broke → quiet
+IsQuietAt broke quiet _ = Unit {0}
 
 -- a transition as a watcher is shown it
 abbrev pub view_of : Running → RunView

@@ -88,6 +88,8 @@ impl<'a> Watcher for Follower<'a> {
 
     ghost stopped = { λ _ _ _ _. Unit {0} };
 
+    ghost quiet = { λ _. Unit {0} };
+
     ghost shown = { λ _ _ _. Unit {0} };
 
     ghost stops = { λ w. w.stops };
@@ -115,5 +117,9 @@ impl<'a> Watcher for Follower<'a> {
             return self.hear(Line::Complete(transition));
         }
         self.hear(Line::Aborted(transition))
+    }
+
+    fn waits(&mut self) -> Heard {
+        Heard::Go
     }
 }

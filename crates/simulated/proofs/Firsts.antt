@@ -128,5 +128,5 @@ first_shows c es nodes cells number n h = record {
   cells = h;
   alone = λ r m l k e. absurd (never_rising c es r m e);
   state = refl;
-  given = refl;
+  faults = refl;
 }

@@ -17,7 +17,7 @@ pub record RealityOf : Type 0 where
   pub rising : Option (ℕ × ℕ)
   pub number : ℕ
   pub state : ℕ
-  pub given : ℕ
+  pub faults : ℕ
 
 -- the list has these cells
 pub record Holds (c : Cluster) (kept : List Real) (cells : Cells) : Type 0 where
@@ -33,14 +33,14 @@ abbrev pub IsAlone : Cluster → Option (ℕ × ℕ) → Cells → Type 0
 IsAlone c rising cells = (r n : ℕ) → r < length c.leaves → n < length c.nodes → cells r n ≡ real.Rising → rising ≡ Some (r, n)
 
 abbrev pub reality : Cluster → List Standing → List Real → Option (ℕ × ℕ) → ℕ → ℕ → ℕ → RealityOf
-reality c nodes cells rising number state given = record {
+reality c nodes cells rising number state faults = record {
   cluster = c;
   nodes = nodes;
   cells = cells;
   rising = rising;
   number = number;
   state = state;
-  given = given;
+  faults = faults;
 }
 
 -- the list says how these nodes stand
@@ -53,7 +53,7 @@ pub record ShowsWorld (k : RealityOf) (w : World) : Type 0 where
   pub cells : Holds k.cluster k.cells w.cells
   pub alone : IsAlone k.cluster k.rising w.cells
   pub state : k.state ≡ state_after k.number w.drawn
-  pub given : k.given ≡ w.given
+  pub faults : k.faults ≡ w.faults
 
 -- the cluster is within the limits, and there is something kept of each node and cell
 pub record RealityFits (k : RealityOf) : Type 0 where

@@ -82,6 +82,10 @@ impl Outcomes for World<'_> {
 
     ghost over = { λ _. true };
 
+    ghost at_hand = { λ _. Unit {0} };
+
+    ghost broke = { λ _. ⊥ };
+
     ghost agrees = { Agrees };
 
     ghost follows = { IsOfOne };
@@ -100,6 +104,10 @@ impl Outcomes for World<'_> {
 
     fn begun(&mut self, _number: u32, action: Action) {
         self.reality.begin(action);
+    }
+
+    fn is_ready(&self) -> bool {
+        true
     }
 
     fn next(&mut self, flight: &InFlight) -> Next {

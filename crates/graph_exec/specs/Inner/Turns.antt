@@ -1,5 +1,5 @@
 -- One transition of a replay, and what comes right after it. No public clause cites this module (rule of this project).
-use Rattle.std.specs.Prelude.{◌≡◌, ℕ, ◌+◌, Bool, true, false, Option, Some, Result, Ok, Err, List, [], ◌++◌}
+use Rattle.std.specs.Prelude.{◌≡◌, ◌⊎◌, ℕ, ◌+◌, Bool, true, false, Option, Some, None, Result, Ok, Err, List, [], ◌++◌}
 use Rattle.cluster_types.specs.declared.cluster.Cluster.{Cluster}
 use Rattle.cluster_types.specs.declared.journal.Answer.{Answer}
 use Rattle.cluster_types.specs.declared.journal.Event.{Event}
@@ -86,7 +86,7 @@ module _ (Follows : List RunLine → Type 0) (s : Setting) (from : RunStanding) 
     pub not_over : s.steady ≡ true → old.over ≡ false
     pub leaves : journal ≡ journal_back s last
 
-  pub record EndsStopped (Stopped : List RunLine → RunLine → Type 0) (journal : Journal) : Type 0 where
+  pub record EndsStopped (Stopped : List RunLine → Option RunLine → Type 0) (journal : Journal) : Type 0 where
     pub before : RunStanding
     pub next : RunStanding
     pub middle : Option (List Answer)
@@ -94,8 +94,16 @@ module _ (Follows : List RunLine → Type 0) (s : Setting) (from : RunStanding) 
     pub call : List RunLine
     pub runs : Runs s.cluster s.promotions s.whole from old.rest lines before middle
     pub step : RunsOn s.cluster s.promotions s.whole before middle call next new.rest
-    pub told : StopsAmong (λ passed at. Stopped (lines ++ passed) at) call
+    pub told : StopsAmong (λ passed at. Stopped (lines ++ passed) (Some at)) call
     pub leaves : journal ≡ journal_back s next
+
+  pub record EndsStoppedAsking (Stopped : List RunLine → Option RunLine → Type 0) (journal : Journal) : Type 0 where
+    pub last : RunStanding
+    pub lines : List RunLine
+    pub runs : Runs s.cluster s.promotions s.whole from old.rest lines last new.rest
+    pub told : Stopped lines None
+    pub asking : IsAsking s.cluster s.promotions s.whole last
+    pub leaves : journal ≡ journal_back s last
 
   pub record RunEndsBetween : Type 0 where
     pub at : RunStanding
@@ -105,11 +113,11 @@ module _ (Follows : List RunLine → Type 0) (s : Setting) (from : RunStanding) 
     pub between : IsBetween s.cluster s.promotions s.whole at
 
   -- how it ended on the way
-  abbrev pub RunEndsAs : (List RunLine → RunLine → Type 0) → Result Journal ReplayStop → Type 0
+  abbrev pub RunEndsAs : (List RunLine → Option RunLine → Type 0) → Result Journal ReplayStop → Type 0
   RunEndsAs Stopped (Ok journal) = EndsWhole journal
   RunEndsAs Stopped (Err (stop.Unexpected journal given)) = RunEndsCut journal given
   RunEndsAs Stopped (Err (stop.SourceFault journal)) = EndsBroken journal
-  RunEndsAs Stopped (Err (stop.Stopped journal)) = EndsStopped Stopped journal
+  RunEndsAs Stopped (Err (stop.Stopped journal)) = EndsStopped Stopped journal ⊎ EndsStoppedAsking Stopped journal
   RunEndsAs Stopped (Err (stop.Most journal)) = ⊥
   RunEndsAs Stopped (Err stop.NoMemory) = RunEndsBetween
 

@@ -5,7 +5,7 @@ ghost use Rattle.cluster_types.specs.Runs.{amid};
 ghost use Rattle.cluster_types.specs.Safety.{IsAtRest};
 ghost use Rattle.graph_exec.specs.Lasting.{SourceLasts, WatcherLasts};
 ghost use Rattle.graph_exec.specs.Running.{going};
-ghost use Rattle.graph_exec.specs.Replays.{AgreesWith, IsReplayExpected, IsShownEnd, OfJournal, setting, sight};
+ghost use Rattle.graph_exec.specs.Replays.{AgreesWith, IsQuietInFault, IsReplayExpected, IsShownEnd, OfJournal, setting, sight};
 ghost use Rattle.graph_exec.specs.Telling.{view_amid, view_between};
 ghost use Rattle.graph_exec.specs.Inner.Turns.{CameTo, RunEndsAs, HasPlannedGraph, closed_at, part_heard, part_word};
 
@@ -54,6 +54,7 @@ pub(crate) fn carry_out<'c, S: Outcomes, V: Watcher>(
 
     ensures source { SourceLasts S.Outcomes outcomes.old outcomes.new (part_word result) }
     ensures watcher { WatcherLasts V.Watcher watcher.old watcher.new (part_heard result) }
+    ensures quiet { IfErr result (IsQuietInFault (S.broke outcomes.new) (V.quiet watcher.new)) }
     ensures shown { V.shown watcher.old Heard.Go
         (view_amid executor.entry.cluster executor.entry.promotions executor.entry.graph.actions executor.entry.planned_at)
         → IfOk result (λ closed. V.shown watcher.new Heard.Go (view_between executor.entry.cluster executor.entry.promotions closed.journal.events)) }

@@ -1,16 +1,17 @@
 //! An answer that comes while nothing is to be done.
 
-ghost use Rattle.std.specs.Prelude.{◌≡◌, ◌+◌, [], true, IfOk, IfErr};
+ghost use Rattle.std.specs.Prelude.{◌≡◌, ◌⊎◌, ◌+◌, [], true, IfOk, IfErr};
 ghost use Rattle.cluster_types.specs.Journals.{in_flight_by_begin};
 ghost use Rattle.cluster_types.specs.Runs.{due, idle};
 ghost use Rattle.graph_exec.specs.Inner.Keeping.{IsAnswered, IsUnanswered, idle_word, watched_end};
 ghost use Rattle.graph_exec.specs.Lasting.{SourceLasts, WatcherLasts};
-ghost use Rattle.graph_exec.specs.Replays.{AgreesWith, IsReplayExpected, IsShownEnd, OfJournal, setting, sight};
+ghost use Rattle.graph_exec.specs.Replays.{AgreesWith, IsQuietInFault, IsReplayExpected, IsShownEnd, OfJournal, setting, sight};
 ghost use Rattle.graph_exec.specs.Telling.{view_between};
 ghost use Rattle.graph_exec.specs.Inner.Turns.{CameTo, RunEndsAs, part_heard, part_word};
 
 use crate::run::run_ending::RunEnd;
 use crate::run::stop::{Ended, ReplayStop};
+use crate::transition::rounds::wait_for;
 use crate::{Heard, KnownJournal, Next, Outcomes, Resting, Watcher};
 use cluster_types::Answer;
 use std::alloc::Global;
@@ -23,13 +24,15 @@ pub(crate) struct Taken<'c> {
 }
 
 /// Asks the source while nothing is to be done, and enters its answer; or says how the run ends here. All memory is taken
-/// before the source is asked.
-pub(crate) fn ask_idle<'c, S: Outcomes>(
+/// before the source is asked. What that says is at hand, or this watcher holds nothing back.
+pub(crate) fn ask_idle<'c, S: Outcomes, V: Watcher>(
     alloc: Global,
     journal: KnownJournal<'c>,
     outcomes: &mut S,
+    watcher: &V,
 ) -> Result<Taken<'c>, RunEnd>
     requires resting { in_flight_by_begin journal.events ≡ [] }
+    requires in_time { S.at_hand outcomes.old ⊎ V.quiet watcher.now }
     ensures answered { IfOk result (IsAnswered (S.whole outcomes.old) journal.entry (S.rest outcomes.old) (S.rest outcomes.new)) }
     ensures unanswered { IfErr result
         (IsUnanswered (S.whole outcomes.old) journal.entry (S.rest outcomes.old) (S.rest outcomes.new) (S.over outcomes.old)) }
@@ -42,6 +45,7 @@ pub(crate) fn ask_idle<'c, S: Outcomes>(
         → IfErr result (λ end. IsReplayExpected (watched_end end)) }
 
     ensures source { SourceLasts S.Outcomes outcomes.old outcomes.new (idle_word result) }
+    ensures quiet { IfErr result (λ end. IsQuietInFault (S.broke outcomes.new) (V.quiet watcher.now) (watched_end end)) }
 {
     let Ok(resting) = Resting::new(alloc, journal) else {
         return Err(RunEnd::NoMemory);
@@ -63,7 +67,8 @@ pub(crate) fn ask_idle<'c, S: Outcomes>(
 }
 
 /// Asks the source while nothing is to be done, after the transition of this number in the run. Its answer is entered, and
-/// the watcher is told of it; where nothing more is said, the run is over. All memory is taken before the source is asked.
+/// the watcher is told of it; where nothing more is said, the run is over. Before the source may keep it waiting, the watcher
+/// is told so. All memory is taken before the source is asked.
 pub(crate) fn take_idle<'c, S: Outcomes, V: Watcher>(
     alloc: Global,
     journal: KnownJournal<'c>,
@@ -93,12 +98,16 @@ pub(crate) fn take_idle<'c, S: Outcomes, V: Watcher>(
 
     ensures source { SourceLasts S.Outcomes outcomes.old outcomes.new (part_word result) }
     ensures watcher { WatcherLasts V.Watcher watcher.old watcher.new (part_heard result) }
+    ensures quiet { IfErr result (IsQuietInFault (S.broke outcomes.new) (V.quiet watcher.new)) }
     ensures shown { V.shown watcher.old Heard.Go (view_between journal.entry.cluster journal.entry.promotions journal.entry.events)
         → IfOk result (λ later. V.shown watcher.new Heard.Go (view_between journal.entry.cluster journal.entry.promotions later.events)) }
     ensures shown_at_end { V.shown watcher.old Heard.Go (view_between journal.entry.cluster journal.entry.promotions journal.entry.events)
         → IfErr result (IsShownEnd (V.shown watcher.new) journal.entry.cluster journal.entry.promotions) }
 {
-    match ask_idle(alloc, journal, outcomes) {
+    if let Heard::Stop = wait_for(outcomes, watcher) {
+        return Err(Err(ReplayStop::Stopped(journal.into_journal())));
+    }
+    match ask_idle(alloc, journal, outcomes, watcher) {
         Ok(taken) => match watcher.taken(taken.answer) {
             Heard::Go => Ok(taken.journal),
             Heard::Stop => Err(Err(ReplayStop::Stopped(taken.journal.into_journal()))),

@@ -12,7 +12,7 @@ ghost use Rattle.graph_exec.specs.Replays.{AgreesWith, IsReplayExpected, OfJourn
 use crate::run::idling::ask_idle;
 use crate::run::planning::plan_anew;
 use crate::run::run_ending::RunEnd;
-use crate::{End, KnownJournal, Outcomes, run_transition};
+use crate::{End, KnownJournal, Outcomes, Unwatched, run_transition};
 use cluster_types::{NoMemory, Passed, PassedEnd, Placed};
 use listed::Listed;
 use std::alloc::Global;
@@ -124,7 +124,7 @@ pub(crate) fn keep_transition<'c, S: Outcomes>(
         return Err(RunEnd::NoMemory);
     };
     match end {
-        End::Complete => match ask_idle(alloc, later, outcomes) {
+        End::Complete => match ask_idle(alloc, later, outcomes, &Unwatched) {
             Ok(taken) => Ok(taken.journal),
             Err(ended) => Err(ended),
         },

@@ -6,7 +6,7 @@ ghost use Rattle.cluster_types.specs.Safety.{IsAtRest};
 ghost use Rattle.cluster_types.specs.Valid.{IsValid};
 ghost use Rattle.graph_exec.specs.declared.run.stop.ReplayStop.TheVariants.{Stopped};
 ghost use Rattle.graph_exec.specs.Lasting.{SourceLasts, WatcherLasts};
-ghost use Rattle.graph_exec.specs.Replays.{AgreesWith, IsReplayExpected, IsShownEnd, OfJournal, setting, sight};
+ghost use Rattle.graph_exec.specs.Replays.{AgreesWith, IsQuietInFault, IsReplayExpected, IsShownEnd, OfJournal, setting, sight};
 ghost use Rattle.graph_exec.specs.Telling.{view_between};
 ghost use Rattle.graph_exec.specs.Inner.Turns.{CameTo, RunEndsAs, Serves, left_of, part_heard, part_word};
 
@@ -68,6 +68,7 @@ pub(crate) fn make_transition<'c, S: Outcomes, V: Watcher>(
 
     ensures source { SourceLasts S.Outcomes outcomes.old outcomes.new (part_word result) }
     ensures watcher { WatcherLasts V.Watcher watcher.old watcher.new (part_heard result) }
+    ensures quiet { IfErr result (IsQuietInFault (S.broke outcomes.new) (V.quiet watcher.new)) }
     ensures shown { V.shown watcher.old Heard.Go (view_between journal.entry.cluster journal.entry.promotions journal.entry.events)
         → IfOk result (λ turn. V.shown watcher.new Heard.Go (view_between journal.entry.cluster journal.entry.promotions turn.journal.events)) }
     ensures shown_at_end { V.shown watcher.old Heard.Go (view_between journal.entry.cluster journal.entry.promotions journal.entry.events)

@@ -6,7 +6,7 @@ ghost use Rattle.cluster_types.specs.Safety.{IsAtRest, IsSafeRun};
 ghost use Rattle.cluster_types.specs.Valid.{IsValid};
 ghost use Rattle.graph_exec.specs.Lasting.{SourceLasts, WatcherLasts};
 ghost use Rattle.graph_exec.specs.Telling.{view_between};
-ghost use Rattle.graph_exec.specs.Replays.{AgreesWith, IsReplayExpected, IsJournalKept, IsShownEnd, OfJournal, ReplaysAs, replay_heard, replay_word, setting, sight};
+ghost use Rattle.graph_exec.specs.Replays.{AgreesWith, IsQuietInFault, IsReplayExpected, IsJournalKept, IsShownEnd, OfJournal, ReplaysAs, replay_heard, replay_word, setting, sight};
 
 use crate::run::stop::ReplayStop;
 use crate::run::turning::make_transition;
@@ -19,7 +19,7 @@ use std::alloc::Global;
 /// an aborted transition the next is due; after a complete one the source is asked while nothing is to be done, and an answer
 /// that applies then makes the next due. Where nothing more is said, the run is over.
 ///
-/// The watcher is told each line as it happens. Out of memory comes between two transitions alone, so that a transition that
+/// The watcher is told each line as it happens, and that the source is asked unless what it says is at hand. Out of memory comes between two transitions alone, so that a transition that
 /// was told is carried out. The last plan is kept, and serves again while the journal tells the same states; the journal is
 /// read once.
 ///
@@ -53,6 +53,7 @@ pub fn replay_watched<S: Outcomes, V: Watcher>(
 
     // What became of the watcher.
     ensures watcher { WatcherLasts V.Watcher watcher.old watcher.new (replay_heard result) }
+    ensures quiet { IsQuietInFault (S.broke outcomes.new) (V.quiet watcher.new) result }
     ensures shown { V.shown watcher.old Heard.Go (view_between cluster.now journal.promotions journal.events)
         → IsShownEnd (V.shown watcher.new) cluster.now journal.promotions result }
 {

@@ -59,6 +59,10 @@ impl Outcomes for Failing {
 
     ghost over = { λ _. false };
 
+    ghost at_hand = { λ _. Unit {0} };
+
+    ghost broke = { λ _. ⊥ };
+
     ghost agrees = { λ _ _ _ _. Unit {0} };
 
     ghost follows = { λ _ _. Unit {0} };
@@ -76,6 +80,10 @@ impl Outcomes for Failing {
     ghost said_later = { λ _ _ _ _ _ _. tt };
 
     fn begun(&mut self, _number: u32, _action: Action) {}
+
+    fn is_ready(&self) -> bool {
+        true
+    }
 
     fn next(&mut self, flight: &InFlight) -> Next
         ensures gives { GivesNext true (Some self.old.left) (Some self.new.left) result }

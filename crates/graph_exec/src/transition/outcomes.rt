@@ -48,6 +48,12 @@ pub trait Outcomes {
     /// Whether it never fails from now on.
     ghost over: { Self → Bool };
 
+    /// What it says next is at hand: a question brings it without waiting.
+    ghost at_hand: { Self → Type 0 };
+
+    /// Its last question has failed as it waited for what comes next.
+    ghost broke: { Self → Type 0 };
+
     /// It agrees with a journal of a cluster, after so many answers from outside in this transition.
     ghost agrees: { Self → ClusterOf → List EventOf → ℕ → Type 0 };
 
@@ -69,12 +75,17 @@ pub trait Outcomes {
         ensures agrees { (c : ClusterOf) (es : List EventOf) (taken : ℕ) → agrees self.old c es taken → agrees self.new c (es ++ Begin number action ∷ []) taken }
         ensures follows { follows self.old self.new };
 
+    /// Whether what it says next is at hand. Where it can't tell, it says no.
+    fn is_ready(&self) -> bool
+        ensures { result ≡ true → at_hand self.now };
+
     /// What comes next, with these actions in flight.
     fn next(&mut self, flight: &InFlight) -> Next
         ensures gives { GivesNext (whole self.old) (rest self.old) (rest self.new) result }
         ensures whole { whole self.new ≡ whole self.old }
         ensures count { faults self.old ≤ faults self.new }
         ensures cause { result ≡ Next.Failed → Rose (faults self.old) (faults self.new) }
+        ensures at_hand { at_hand self.old → result ≡ Next.Failed → ¬ broke self.new }
         ensures asked { asked self.new ≤ asked self.old + 1 }
         ensures careful { careful self.new ≡ careful self.old }
         ensures steady { steady self.new ≡ steady self.old }

@@ -4,7 +4,7 @@ ghost use Rattle.std.specs.Prelude.{◌≡◌, ◌≤◌, ◌+◌, true, length}
 ghost use Rattle.graph_exec.specs.Lasting.{SourceLasts, WatcherLasts, transition_word};
 ghost use Rattle.graph_exec.specs.Promises.{EndsWell, KeepsPromises};
 ghost use Rattle.graph_exec.specs.Transitions.{Accords, EndsAs, GoneTo, HasSaidAll, IsExpected};
-ghost use Rattle.graph_exec.specs.Watching.{Hears, IsShownAll, heard_at, watched};
+ghost use Rattle.graph_exec.specs.Watching.{Hears, IsQuietAt, IsShownAll, heard_at, watched};
 
 use crate::transition::ends::{End, WatchedEnd, without_watcher};
 use crate::transition::executor::Executor;
@@ -12,7 +12,7 @@ use crate::transition::outcomes::Outcomes;
 use crate::transition::watcher::{Heard, Unwatched, Watcher};
 
 /// Carries the transition out to its end: all that may begin, begins before an answer is taken, and a watcher is told of
-/// each step. When it stops, nothing more begins or is taken. After `Unexpected`, `SourceFault` or `Stopped` the executor
+/// each step, and before the source may keep it waiting. When it stops, nothing more begins or is taken. After `Unexpected`, `SourceFault` or `Stopped` the executor
 /// holds the steps so far, and a further call goes on from there. It takes no memory.
 pub fn run_watched<S: Outcomes, V: Watcher>(
     executor: &mut Executor<'_>,
@@ -37,6 +37,7 @@ pub fn run_watched<S: Outcomes, V: Watcher>(
     ensures told { Hears (V.follows watcher.old watcher.new) (V.stopped watcher.old watcher.new) (S.whole outcomes.old) executor.old executor.new
         (S.rest outcomes.old) (S.rest outcomes.new) (heard_at result) }
     ensures watcher { WatcherLasts V.Watcher watcher.old watcher.new (heard_at result) }
+    ensures quiet { IsQuietAt (S.broke outcomes.new) (V.quiet watcher.new) result }
     ensures shown { IsShownAll (V.shown watcher.old Heard.Go) executor.old → IsShownAll (V.shown watcher.new (heard_at result)) executor.new }
 {
     loop {

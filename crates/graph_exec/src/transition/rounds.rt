@@ -1,18 +1,33 @@
 //! One round of a transition over a source: all that may begin, begins, and then an answer is taken.
 
-ghost use Rattle.std.specs.Prelude.{◌≡◌, ◌<◌, ◌≤◌, ◌+◌, true, false, IfSome, IfNone, IfOk, IfErr, OnOk, unwrap_or};
+ghost use Rattle.std.specs.Prelude.{◌≡◌, ◌⊎◌, ◌<◌, ◌≤◌, ◌+◌, [], true, false, None, IfSome, IfNone, IfOk, IfErr, OnOk, unwrap_or};
 ghost use Rattle.cluster_types.specs.Steps.{IsWaiting, is_settled};
 ghost use Rattle.graph_exec.specs.Lasting.{SourceLasts, WatcherLasts, none_failed};
 ghost use Rattle.graph_exec.specs.Inner.Rounds.{Advanced, Answered, StopsAs, asked_word, asks_left, begins_left, round_word};
 ghost use Rattle.graph_exec.specs.Running.{IsUnderWay, Went, going};
 ghost use Rattle.graph_exec.specs.Transitions.{Accords, EndsAs, GoneTo, HasGoneToEnd, IsExpected, WentAsSaid};
-ghost use Rattle.graph_exec.specs.Watching.{Hears, IsShownAll, heard_in};
+ghost use Rattle.graph_exec.specs.Telling.{RunView};
+ghost use Rattle.graph_exec.specs.Watching.{Hears, IsQuietAt, IsShownAll, heard_in};
 
 use crate::transition::ends::WatchedEnd;
 use crate::transition::executor::Executor;
 use crate::transition::outcomes::{Next, Outcomes};
 use crate::transition::watcher::{Heard, Watcher};
 use cluster_types::Answer;
+
+/// The source is asked next: unless what it says is at hand, the watcher is told so.
+pub(crate) fn wait_for<S: Outcomes, V: Watcher>(outcomes: &S, watcher: &mut V) -> Heard
+    ensures in_time { result ≡ Heard.Go → S.at_hand outcomes.now ⊎ V.quiet watcher.new }
+    ensures follows { result ≡ Heard.Go → V.follows watcher.old watcher.new [] }
+    ensures stopped { result ≡ Heard.Stop → V.stopped watcher.old watcher.new [] None }
+    ensures watcher { WatcherLasts V.Watcher watcher.old watcher.new result }
+    ensures shown { (v : RunView) → V.shown watcher.old Heard.Go v → V.shown watcher.new result v }
+{
+    if outcomes.is_ready() {
+        return Heard::Go;
+    }
+    watcher.waits()
+}
 
 impl<'c> Executor<'c> {
     /// Of the actions that may begin, the one of lowest number begins, and the source and then the watcher are told. Where
@@ -78,8 +93,15 @@ impl<'c> Executor<'c> {
 
     /// The source is asked, where none may begin and something is in flight. Its answer is taken, or the first action in
     /// flight ends silently, and the answer is given; else it says how the transition ends here.
-    fn ask<S: Outcomes>(&mut self, outcomes: &mut S) -> Result<Answer, WatchedEnd>
-        requires { IsWaiting (going self.old) self.old.since }
+    ///
+    /// What it says is at hand, or this watcher holds nothing back: whoever waits for it was told all before.
+    fn ask<S: Outcomes, V: Watcher>(
+        &mut self,
+        outcomes: &mut S,
+        watcher: &V,
+    ) -> Result<Answer, WatchedEnd>
+        requires waiting { IsWaiting (going self.old) self.old.since }
+        requires in_time { S.at_hand outcomes.old ⊎ V.quiet watcher.now }
         ensures answered { IfOk result (Answered (S.whole outcomes.old) self.old self.new (S.rest outcomes.old) (S.rest outcomes.new)) }
         ensures stops { IfErr result (StopsAs (S.whole outcomes.old) self.old self.new (S.rest outcomes.old) (S.rest outcomes.new)) }
         ensures under_way { IsUnderWay self.new }
@@ -91,6 +113,7 @@ impl<'c> Executor<'c> {
         ensures not_over { IfErr result (λ end. end ≡ WatchedEnd.SourceFault → S.over outcomes.old ≡ false) }
         ensures unread { IfErr result (λ end. end ≡ WatchedEnd.SourceFault → S.rest outcomes.new ≡ S.rest outcomes.old) }
         ensures fitting { S.careful outcomes.old ≡ true → Accords (S.agrees outcomes.old) self.old → IfErr result IsExpected }
+        ensures quiet { IfErr result (IsQuietAt (S.broke outcomes.new) (V.quiet watcher.now)) }
     {
         match outcomes.next(self.course.flight()) {
             Next::Answer(answer) => match self.take(answer) {
@@ -103,7 +126,7 @@ impl<'c> Executor<'c> {
     }
 
     /// The source is asked, where none may begin and something is in flight, and the watcher is told of the answer that was
-    /// taken; else it says how the transition ends here.
+    /// taken; else it says how the transition ends here. Before the source may keep it waiting, the watcher is told so.
     pub(crate) fn go_on<S: Outcomes, V: Watcher>(
         &mut self,
         outcomes: &mut S,
@@ -130,9 +153,13 @@ impl<'c> Executor<'c> {
         ensures told { Hears (V.follows watcher.old watcher.new) (V.stopped watcher.old watcher.new) (S.whole outcomes.old) self.old self.new
             (S.rest outcomes.old) (S.rest outcomes.new) (heard_in result) }
         ensures watcher { WatcherLasts V.Watcher watcher.old watcher.new (heard_in result) }
+        ensures quiet { IfSome result (IsQuietAt (S.broke outcomes.new) (V.quiet watcher.new)) }
         ensures shown { IsShownAll (V.shown watcher.old Heard.Go) self.old → IsShownAll (V.shown watcher.new (heard_in result)) self.new }
     {
-        match self.ask(outcomes) {
+        if let Heard::Stop = wait_for(outcomes, watcher) {
+            return Some(WatchedEnd::Stopped);
+        }
+        match self.ask(outcomes, watcher) {
             Ok(answer) => match watcher.taken(answer) {
                 Heard::Go => None,
                 Heard::Stop => Some(WatchedEnd::Stopped),

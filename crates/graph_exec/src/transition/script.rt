@@ -67,6 +67,10 @@ impl Outcomes for Script {
 
     ghost over = { λ _. true };
 
+    ghost at_hand = { λ _. Unit {0} };
+
+    ghost broke = { λ _. ⊥ };
+
     ghost agrees = { λ _ _ _ _. Unit {0} };
 
     ghost follows = { λ _ _. Unit {0} };
@@ -84,6 +88,10 @@ impl Outcomes for Script {
     ghost said_later = { λ _ _ _ _ _ _. tt };
 
     fn begun(&mut self, _number: u32, _action: Action) {}
+
+    fn is_ready(&self) -> bool {
+        true
+    }
 
     fn next(&mut self, _flight: &InFlight) -> Next
         ensures gives { GivesNext true (Some self.old.left) (Some self.new.left) result }

@@ -1,6 +1,6 @@
 //! Who is told what happens.
 
-ghost use Rattle.std.specs.Prelude.{◌≡◌, ◌≤◌, ◌++◌, ◌∷◌, [], ℕ, Option, Some, true, List};
+ghost use Rattle.std.specs.Prelude.{◌≡◌, ◌≤◌, ◌++◌, ◌∷◌, [], ℕ, Option, Some, None, true, List};
 ghost use Rattle.std.specs.List.{flat_map};
 ghost use Rattle.cluster_io.specs.Streams.{Rose};
 ghost use Rattle.cluster_types.specs.declared.cluster.Cluster.{Cluster as ClusterOf};
@@ -35,8 +35,11 @@ pub trait Watcher {
     /// It has come from another, the same watcher at an earlier moment, by these lines, and went on each time.
     ghost follows: { Self → Self → List LineOf → Type 0 };
 
-    /// It has come so from another by these lines, and then has stopped at this one.
-    ghost stopped: { Self → Self → List LineOf → LineOf → Type 0 };
+    /// It has come so from another by these lines, and then has stopped: at this one, or, where there is none, as the source was about to be asked.
+    ghost stopped: { Self → Self → List LineOf → Option LineOf → Type 0 };
+
+    /// It holds nothing back of what it was told.
+    ghost quiet: { Self → Type 0 };
 
     /// It has been shown a run up to here, each plan before the events of its transition, and said this at the last call.
     ghost shown: { Self → HeardOf → RunView → Type 0 };
@@ -49,7 +52,7 @@ pub trait Watcher {
         requires { ReasonsHaveNames placed.now }
         ensures same_lines { (c : ClusterOf) → is_of self.old c → is_of self.new c }
         ensures follows { result ≡ Heard.Go → (c : ClusterOf) → is_of self.old c → follows self.old self.new (plan_lines c transition placed.now) }
-        ensures stopped { result ≡ Heard.Stop → (c : ClusterOf) → is_of self.old c → StopsAmong (stopped self.old self.new) (plan_lines c transition placed.now) }
+        ensures stopped { result ≡ Heard.Stop → (c : ClusterOf) → is_of self.old c → StopsAmong (λ lines at. stopped self.old self.new lines (Some at)) (plan_lines c transition placed.now) }
         ensures shown { (c : ClusterOf) (promotions : List PromotionOf) (es : List EventOf) (actions : List ActionOf) → IsPlan c es promotions placed.now actions
             → shown self.old Heard.Go (view_between c promotions es) → shown self.new result (view_amid c promotions actions es) }
         ensures count { stops self.old ≤ stops self.new }
@@ -59,7 +62,7 @@ pub trait Watcher {
     fn begun(&mut self, number: u32, action: Action) -> Heard
         ensures same_lines { (c : ClusterOf) → is_of self.old c → is_of self.new c }
         ensures follows { result ≡ Heard.Go → follows self.old self.new (line.Begin number action ∷ []) }
-        ensures stopped { result ≡ Heard.Stop → stopped self.old self.new [] (line.Begin number action) }
+        ensures stopped { result ≡ Heard.Stop → stopped self.old self.new [] (Some (line.Begin number action)) }
         ensures shown { (v : RunView) → view_action v number ≡ Some action → shown self.old Heard.Go v → shown self.new result (view_later v (Begin number action ∷ [])) }
         ensures count { stops self.old ≤ stops self.new }
         ensures cause { result ≡ Heard.Stop → Rose (stops self.old) (stops self.new) };
@@ -68,7 +71,7 @@ pub trait Watcher {
     fn taken(&mut self, answer: Answer) -> Heard
         ensures same_lines { (c : ClusterOf) → is_of self.old c → is_of self.new c }
         ensures follows { result ≡ Heard.Go → follows self.old self.new (line.Taken answer ∷ []) }
-        ensures stopped { result ≡ Heard.Stop → stopped self.old self.new [] (line.Taken answer) }
+        ensures stopped { result ≡ Heard.Stop → stopped self.old self.new [] (Some (line.Taken answer)) }
         ensures shown { (v : RunView) (flight : List (ℕ × ActionOf)) (taken : ℕ) → AreInFlightByNumber v.events flight
             → applies_after v.cluster v.events flight taken answer ≡ true
             → flat_map event_lines (added_by v.cluster v.events flight answer) ≡ line.Taken answer ∷ []
@@ -80,9 +83,19 @@ pub trait Watcher {
     fn closed(&mut self, transition: u32, complete: bool) -> Heard
         ensures same_lines { (c : ClusterOf) → is_of self.old c → is_of self.new c }
         ensures follows { result ≡ Heard.Go → follows self.old self.new (closing_line transition complete ∷ []) }
-        ensures stopped { result ≡ Heard.Stop → stopped self.old self.new [] (closing_line transition complete) }
+        ensures stopped { result ≡ Heard.Stop → stopped self.old self.new [] (Some (closing_line transition complete)) }
         ensures shown { (c : ClusterOf) (promotions : List PromotionOf) (actions : List ActionOf) (es : List EventOf)
             → shown self.old Heard.Go (view_amid c promotions actions es) → shown self.new result (view_between c promotions es) }
+        ensures count { stops self.old ≤ stops self.new }
+        ensures cause { result ≡ Heard.Stop → Rose (stops self.old) (stops self.new) };
+
+    /// The source is asked next, and may keep the run waiting: what is held back goes out now.
+    fn waits(&mut self) -> Heard
+        ensures same_lines { (c : ClusterOf) → is_of self.old c → is_of self.new c }
+        ensures follows { result ≡ Heard.Go → follows self.old self.new [] }
+        ensures stopped { result ≡ Heard.Stop → stopped self.old self.new [] None }
+        ensures quiet { result ≡ Heard.Go → quiet self.new }
+        ensures shown { (v : RunView) → shown self.old Heard.Go v → shown self.new result v }
         ensures count { stops self.old ≤ stops self.new }
         ensures cause { result ≡ Heard.Stop → Rose (stops self.old) (stops self.new) };
 
@@ -93,7 +106,7 @@ pub trait Watcher {
     ghost from_before: { (first middle last : Self) (lines more : List LineOf) → follows first middle lines → follows middle last more → follows first last (lines ++ more) };
 
     /// Where it stops, it does so behind what came before.
-    ghost stopped_later: { (first middle last : Self) (lines more : List LineOf) (at : LineOf) → follows first middle lines → stopped middle last more at
+    ghost stopped_later: { (first middle last : Self) (lines more : List LineOf) (at : Option LineOf) → follows first middle lines → stopped middle last more at
         → stopped first last (lines ++ more) at };
 }
 
@@ -107,6 +120,8 @@ impl Watcher for Unwatched {
     ghost follows = { λ _ _ _. Unit {0} };
 
     ghost stopped = { λ _ _ _ _. Unit {0} };
+
+    ghost quiet = { λ _. Unit {0} };
 
     ghost shown = { λ _ _ _. Unit {0} };
 
@@ -131,6 +146,10 @@ impl Watcher for Unwatched {
     }
 
     fn closed(&mut self, _transition: u32, _complete: bool) -> Heard {
+        Heard::Go
+    }
+
+    fn waits(&mut self) -> Heard {
         Heard::Go
     }
 }

@@ -1,8 +1,8 @@
-use Rattle.std.proofs.Common.{ap, refl, ◌∙◌}
+use Rattle.std.proofs.Common.{ap, inl, refl, ◌∙◌}
 use Rattle.graph_exec.specs.declared.transition.watcher.Heard.TheVariants as heard
 use Rattle.graph_exec.specs.Logs.{JournalOf}
 use Rattle.graph_exec.specs.Running.{Running}
-use Rattle.graph_exec.proofs.Closings.{broken, closes_aborted, closes_complete, cut, stops_aborted, stops_amid, stops_complete}
+use Rattle.graph_exec.proofs.Closings.{broken, closes_aborted, closes_complete, cut, stops_aborted, stops_complete, stops_either}
 use Rattle.graph_exec.proofs.Lasts.{watcher_then, watcher_told}
 use Rattle.graph_exec.proofs.Rests.{accords_first, accords_last, leaves_rest, stays_there}
 use Rattle.graph_exec.proofs.Shown.{shown_closed, shown_closing, shown_first, shown_left}
@@ -31,8 +31,8 @@ returns-in-Go-clause-agrees g c h =
 
 pub returns-in-Stop-clause-ends : goal.returns-in-Stop-clause-ends
 returns-in-Stop-clause-ends g c =
-    stops_complete _ _ _ _ _ c.requires.fresh _ _ _ _ c.in-Complete.ensures.steps _ c.in-Complete.ensures.told _ _ _ (g.met.V.Watcher.stopped_later _ _ _) c.in-Complete.ensures.end
-    (c.in-Stop.ensures.stopped refl) _ c.into_journal.ensures
+    inl (stops_complete _ _ _ _ _ c.requires.fresh _ _ _ _ c.in-Complete.ensures.steps _ c.in-Complete.ensures.told _ _ _ (g.met.V.Watcher.stopped_later _ _ _) c.in-Complete.ensures.end
+    (c.in-Stop.ensures.stopped refl) _ c.into_journal.ensures)
 
 pub returns-in-Stop-clause-agrees_at_end : goal.returns-in-Stop-clause-agrees_at_end
 returns-in-Stop-clause-agrees_at_end g c h =
@@ -63,8 +63,8 @@ returns-in-Go-closed-clause-agrees g c h =
 
 pub returns-in-Stop-closed-clause-ends : goal.returns-in-Stop-closed-clause-ends
 returns-in-Stop-closed-clause-ends g c =
-    stops_aborted _ _ _ _ _ c.requires.fresh _ _ _ _ c.in-Aborted.ensures.steps _ c.in-Aborted.ensures.told _ _ _ (g.met.V.Watcher.stopped_later _ _ _) _ c.in-Aborted.ensures.end
-    (c.in-Stop-closed.ensures.stopped refl) _ c.into_journal-in-Stop-closed.ensures
+    inl (stops_aborted _ _ _ _ _ c.requires.fresh _ _ _ _ c.in-Aborted.ensures.steps _ c.in-Aborted.ensures.told _ _ _ (g.met.V.Watcher.stopped_later _ _ _) _ c.in-Aborted.ensures.end
+    (c.in-Stop-closed.ensures.stopped refl) _ c.into_journal-in-Stop-closed.ensures)
 
 pub returns-in-Stop-closed-clause-agrees_at_end : goal.returns-in-Stop-closed-clause-agrees_at_end
 returns-in-Stop-closed-clause-agrees_at_end g c h =
@@ -101,7 +101,7 @@ returns-in-SourceFault-clause-agrees_at_end g c h =
 -- the watcher stopped
 
 pub returns-in-Stopped-clause-ends : goal.returns-in-Stopped-clause-ends
-returns-in-Stopped-clause-ends g c = stops_amid _ _ _ _ _ c.requires.fresh _ _ _ _ _ _ c.in-Stopped.ensures.told _ c.into_journal-in-Stopped.ensures
+returns-in-Stopped-clause-ends g c = stops_either _ _ _ _ _ c.requires.fresh _ _ _ _ _ _ c.in-Stopped.ensures.steps c.in-Stopped.ensures.told _ c.into_journal-in-Stopped.ensures
 
 pub returns-in-Stopped-clause-agrees_at_end : goal.returns-in-Stopped-clause-agrees_at_end
 returns-in-Stopped-clause-agrees_at_end g c h =

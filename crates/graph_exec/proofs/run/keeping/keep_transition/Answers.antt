@@ -1,4 +1,4 @@
-use Rattle.std.proofs.Common.{ap, length, refl, ◌∙◌}
+use Rattle.std.proofs.Common.{ap, inr, length, refl, ◌∙◌}
 use Rattle.graph_exec.specs.declared.transition.ends.End.{End}
 use Rattle.graph_exec.specs.Logs.{JournalOf}
 use Rattle.graph_exec.specs.Inner.Keeping.{passed_end}
@@ -25,6 +25,7 @@ ask_idle-requires g c =
     let plan = has_plan c.args.journal c.in-Ok.planned c.in-Ok.ensures.ready in
     record {
       resting = (leaves_rest _ _ _ _ _ c.in-Complete.ensures.steps plan (λ placed is. (c.in-Complete.ensures.well placed is).0) _ c.into_known-later.ensures).1;
+      in_time = inr tt;
     }
 
 pub returns-in-Ok-ask_idle-clause-goes_on : goal.returns-in-Ok-ask_idle-clause-goes_on

@@ -1,4 +1,4 @@
-use Rattle.std.proofs.Common.{◌∙◌, refl}
+use Rattle.std.proofs.Common.{◌∙◌, inl, refl}
 use Rattle.graph_exec.specs.declared.transition.watcher.Heard.TheVariants as heard
 use Rattle.graph_exec.specs.Replays.{setting, sight}
 use Rattle.graph_exec.proofs.Joined.{lacks_memory}
@@ -17,7 +17,7 @@ returns-in_default-clause-ends g c = lacks_memory (setting _ _ _ _) _ (g.met.V.W
 
 pub returns-in-Stop-clause-ends : goal.returns-in-Stop-clause-ends
 returns-in-Stop-clause-ends g c =
-    rw c.stopped.ensures (stops_begun c.args.journal c.in-Ok.planned c.in-Ok.ensures.ready _ _ _ _ _ _ _ (c.in-Stop.ensures.stopped refl _ c.requires.lines) _ refl)
+    rw c.stopped.ensures (inl (stops_begun c.args.journal c.in-Ok.planned c.in-Ok.ensures.ready _ _ _ _ _ _ _ (c.in-Stop.ensures.stopped refl _ c.requires.lines) _ refl))
 
 -- the transition is carried out
 
