@@ -1,5 +1,6 @@
 //! Clusters, statements and names of a text, for the tests that begin with them.
 
+ghost use Rattle.std.specs.Prelude.{◌≤◌, length};
 ghost use Rattle.cluster_types.specs.Valid.{IsValid};
 ghost use Rattle.input_reading.specs.Reading.{AreStated};
 
@@ -23,7 +24,8 @@ fn words(rt: &impl Abort, alloc: Global, line: &str) -> Listed<Name> {
 
 /// The statements of a text, whose words are parted by single spaces. A `|` ends a line.
 pub fn crm(rt: &impl Abort, alloc: Global, text: &str) -> Crm
-    ensures { AreStated result }
+    ensures stated { AreStated result }
+    ensures few { length result.statements ≤ 1000000000 }
 {
     let mut lines = Vec::new(alloc);
     let mut number = 0u32;
@@ -36,7 +38,9 @@ pub fn crm(rt: &impl Abort, alloc: Global, text: &str) -> Crm
             })
             .expect(rt, "memory");
     }
-    parse(alloc, lines.as_slice()).expect(rt, "the statements are read")
+    let crm = parse(alloc, lines.as_slice()).expect(rt, "the statements are read");
+    assert!(rt; crm.statements.len() <= 1_000_000_000, "there are few statements");
+    crm
 }
 
 /// The cluster of a text, whose words and lines are parted so.

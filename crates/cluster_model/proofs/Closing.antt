@@ -1,5 +1,5 @@
 -- Where loops are closed, statement by statement.
-use Rattle.std.proofs.Common.{◌≡◌, ℕ, ◌+◌, ◌≤◌, if◌then◌else◌, List, [], ◌∷◌, ◌++◌, length, take, Option, Some, None, Result, Ok, Err, IfOk, refl, sym, ap, ◌∙◌, arith}
+use Rattle.std.proofs.Common.{◌≡◌, ℕ, ◌+◌, ◌≤◌, if◌then◌else◌, List, [], ◌∷◌, ◌++◌, length, take, Option, Some, None, refl, sym, ap, ◌∙◌, arith}
 use Rattle.std.specs.List.{flat_map, sum_by}
 use Rattle.std.proofs.Math.Seq.{take-append_seam}
 use Rattle.std.proofs.lemmas.Grind.{flat_map-append}
@@ -126,10 +126,9 @@ module _ (d : Directory) (leaves : List Leaf) (statements : List Statement) (c :
       (λ front s rest e. sym (loops_closed (front ++ s ∷ []) rest (e ∙ sym (append_assoc front (s ∷ []) rest))))
 
 -- what the search by places returned
-pub found_by_places : {E : Type 0} (statements : List Statement) (c : Cluster) (joined : AllJoin c) (ordered : AllOrder c) (colocation order : Option ℕ)
-    → IsFirstColocation c colocation → IsFirstOrder c order → (found : Result (Option (Fault ModelCause)) E)
-    → IfOk found (λ fault. fault ≡ first_fault (closing_cause colocation order) [] statements)
-    → IfOk found (λ fault. (d : Directory) (leaves : List Leaf) → c ≡ cluster_of d leaves statements → fault ≡ first_fault (loop_cause d leaves) [] statements)
-found_by_places statements c joined ordered colocation order needs steps (Ok fault) h =
-    λ d leaves is. h ∙ closing_is_first d leaves statements c is joined ordered colocation order needs steps
-found_by_places statements c joined ordered colocation order needs steps (Err error) h = tt
+pub found_by_places : (statements : List Statement) (c : Cluster) (joined : AllJoin c) (ordered : AllOrder c) (colocation order : Option ℕ)
+    → IsFirstColocation c colocation → IsFirstOrder c order → (found : Option (Fault ModelCause))
+    → found ≡ first_fault (closing_cause colocation order) [] statements
+    → (d : Directory) (leaves : List Leaf) → c ≡ cluster_of d leaves statements → found ≡ first_fault (loop_cause d leaves) [] statements
+found_by_places statements c joined ordered colocation order needs steps found h d leaves is =
+    h ∙ closing_is_first d leaves statements c is joined ordered colocation order needs steps

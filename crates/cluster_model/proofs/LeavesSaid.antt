@@ -28,9 +28,9 @@ use Rattle.cluster_model.specs.Leaves.{plain_stickiness, target_role_named, leaf
 use Rattle.cluster_model.specs.Inner.Metas.{meta_of, no_meta, or_meta}
 use Rattle.cluster_model.specs.Metas.{read_as, first_given}
 use Rattle.cluster_model.specs.Operations.{after_a_stop, fail_of, monitors_of}
-use Rattle.cluster_model.specs.Settings.{option_given, count_nodes, defaults_in, properties_in}
+use Rattle.cluster_model.specs.Settings.{option_given, count_nodes, defaults_in}
 use Rattle.cluster_model.specs.Resources.{Clone, Group, Primitive, all_clones, all_groups, all_primitives, clone_around, clone_with, group_with, is_later_member, its_clone, its_group, its_primitive}
-use Rattle.cluster_model.specs.Inner.Settings.{defaults_from, defaults_of, option_from, option_of}
+use Rattle.cluster_model.specs.Inner.Settings.{defaults_from, defaults_of}
 use Rattle.cluster_model.specs.Inner.Tables.{lookup}
 
 module _ {V : Type 0} where
@@ -112,17 +112,6 @@ module _ (name : List ℕ) where
   pub cloned_found : (n : ℕ) (statements : List Statement) → lookup (cloned_by n statements) name ≡ option_map (clone_gives n) (clone_with statements name)
   cloned_found n [] = refl
   cloned_found n (s ∷ statements) = clone_found n s.form (cloned_by n statements) (all_clones statements) (cloned_found n statements)
-
--- options, and defaults
-option_goes_on : (key : List ℕ) (found : Option Bool) (statements : List Statement)
-    → option_from key found statements ≡ option_or found (first_given bool_of key (map (λ s. properties_in s.form) statements))
-option_goes_on key found [] = sym (or-none found)
-option_goes_on key found (s ∷ statements) =
-    option_goes_on key (option_or found (read_as bool_of key (properties_in s.form))) statements
-    ∙ or-joined found (read_as bool_of key (properties_in s.form)) (first_given bool_of key (map (λ s. properties_in s.form) statements))
-
-pub option_is : (key : List ℕ) (default : Bool) (statements : List Statement) → option_of key default statements ≡ option_given key default statements
-option_is key default statements = ap (λ (found : Option Bool). unwrap_or found default) (option_goes_on key None statements)
 
 -- one of the meta attributes
 module _ {V : Type 0} (get : Meta → Option V) (reader : List ℕ → Option V) (key : List ℕ)
@@ -293,12 +282,10 @@ module _ (statements : List Statement) where
   pub leaf_is : (p : Primitive) → primitive_leaf (surroundings_of statements) p.id p.meta p.ops ≡ leaf_said statements p
   unfolding primitive_leaf surroundings_of leaf_said
   leaf_is p =
-      let fencing = option_is (codes "stonith-enabled") true statements in
-      let maintenance = option_is (codes "maintenance-mode") false statements in
-      ap (λ (group : InGroup). leaf_by (option_of (codes "stonith-enabled") true statements) (option_of (codes "maintenance-mode") false statements) p
+      ap (λ (group : InGroup). leaf_by (option_given (codes "stonith-enabled") true statements) (option_given (codes "maintenance-mode") false statements) p
       (or_meta (or_meta (or_meta (meta_of p.meta) group.meta) (unwrap_or group.clone uncloned).meta) (defaults_of statements)) group.follower group.clone)
       (around_is p)
-      ∙ (leaf_by_cases _ _ p (group_with statements p.id) (clone_around statements p.id) ∙ rw (fencing, maintenance) refl)
+      ∙ leaf_by_cases _ _ p (group_with statements p.id) (clone_around statements p.id)
 
   -- all leaves
   its_leaf : (f : Form) → leaf_in (surroundings_of statements) f ≡ map (leaf_said statements) (its_primitive f)

@@ -28,3 +28,4 @@ pub mod ExpansionSaid
 pub mod NamedSaid
 pub mod RulesSaid
 pub mod SaidExamples
+pub mod RuleExamples

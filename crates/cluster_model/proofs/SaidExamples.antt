@@ -32,44 +32,44 @@ use Rattle.cluster_model.specs.Spans.{spans_said}
 
 -- statements
 
-abbrev kv : List ℕ → List ℕ → Kv
+abbrev pub kv : List ℕ → List ℕ → Kv
 kv key value = record { key = key; value = value }
 
-abbrev stated : Form → Statement
+abbrev pub stated : Form → Statement
 stated f = record { line = 1; form = f }
 
-abbrev node : List ℕ → Form
+abbrev pub node : List ℕ → Form
 node name = form.Node None name [] []
 
-abbrev primitive : List ℕ → List Kv → Form
+abbrev pub primitive : List ℕ → List Kv → Form
 primitive id meta = form.Primitive id (codes "ocf:heartbeat:Dummy") None [] meta [] [] []
 
-abbrev group : List ℕ → List (List ℕ) → List Kv → Form
+abbrev pub group : List ℕ → List (List ℕ) → List Kv → Form
 group id members meta = form.Group id members None [] meta
 
-abbrev clone : List ℕ → List ℕ → Bool → List Kv → Form
+abbrev pub clone : List ℕ → List ℕ → Bool → List Kv → Form
 clone id child ms meta = form.Cloned id child ms None [] meta
 
 abbrev defaults : List Kv → Form
 defaults pairs = form.Settings RscDefaults None pairs
 
-abbrev property : List Kv → Form
+abbrev pub property : List Kv → Form
 property pairs = form.Settings Property None pairs
 
-abbrev location : List ℕ → Option RoleWord → List ℕ → Form
+abbrev pub location : List ℕ → Option RoleWord → List ℕ → Form
 location resource written where_ = form.Location (codes "l") resource written false (pos 5) where_
 
-abbrev colocation : List ℕ → RoleWord → List ℕ → RoleWord → Form
+abbrev pub colocation : List ℕ → RoleWord → List ℕ → RoleWord → Form
 colocation one its other others =
     form.Colocation (codes "c") (pos 5) (record { resource = one; role = its }) (record { resource = other; role = others })
 
-abbrev step : List ℕ → ActionWord → OrderStep
+abbrev pub step : List ℕ → ActionWord → OrderStep
 step resource what = record { resource = resource; action = what }
 
-abbrev order : OrderStep → OrderStep → Form
+abbrev pub order : OrderStep → OrderStep → Form
 order one other = form.Order (codes "o") Mandatory (one ∷ other ∷ []) true
 
-abbrev said_by : List Form → List Statement
+abbrev pub said_by : List Form → List Statement
 said_by forms = map stated forms
 
 -- two nodes; `vip` and `web` in the group `site`, which is cloned; `db` by itself, and `disk` in a promotable clone of its own
@@ -87,7 +87,7 @@ forms =
     ∷ defaults (kv (codes "priority") (codes "6") ∷ kv (codes "failure-timeout") (codes "2") ∷ [])
     ∷ []
 
-abbrev all : List Statement
+abbrev pub all : List Statement
 all = said_by forms
 
 abbrev vip : Primitive
@@ -167,7 +167,7 @@ unfolding spans_said
 spans = refl
 
 -- names in rules
-abbrev leaves : Leaves
+abbrev pub leaves : Leaves
 leaves = leaves_and_spans all
 
 second_node : node_number all (codes "n2") ≡ 1

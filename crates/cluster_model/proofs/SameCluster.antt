@@ -1,47 +1,41 @@
 -- Statements that say the same say the same cluster.
-use Rattle.std.proofs.Common.{◌≡◌, ℕ, ◌+◌, is_none, Option, Some, None, List, [], ◌∷◌, ◌++◌, map, codes, Ok, refl, sym, ap, ◌∙◌}
-use Rattle.std.specs.Option.{option_or}
+use Rattle.std.proofs.Common.{◌≡◌, ℕ, ◌+◌, is_none, List, [], ◌∷◌, ◌++◌, map, codes, Ok, refl, sym, ap, ◌∙◌}
 use Rattle.std.proofs.lemmas.List.{map-append}
 use Rattle.crm_parse.specs.declared.statement.Statement.{Statement}
-use Rattle.crm_parse.specs.Operations.{value_of}
+use Rattle.crm_parse.specs.Values.{bool_of, count_of}
 use Rattle.cluster_model.specs.declared.expansion.leaves.Leaves.{Leaves}
-use Rattle.cluster_model.specs.Settings.{node_names_in, properties_in}
+use Rattle.cluster_model.specs.Settings.{node_names_in}
 use Rattle.cluster_types.specs.declared.cluster.Cluster.{Cluster}
 use Rattle.cluster_types.specs.declared.leaf.Leaf.{Leaf}
 use Rattle.cluster_model.specs.declared.resolution.counts.Counts.{Counts}
 use Rattle.cluster_model.specs.declared.resolution.directory.Directory.{Directory}
-use Rattle.cluster_model.specs.declared.resolution.fault.ModelCause.{ModelCause}
 use Rattle.cluster_model.specs.Inner.Colocations.{colocations_in}
 use Rattle.cluster_model.specs.Inner.Counting.{all_counted, counted_with, counts_of, nothing_counted}
 use Rattle.cluster_model.specs.Inner.Directories.{directory_of, grouped_from, members_in, numbered_from}
 use Rattle.cluster_model.specs.FirstFaults.{first_fault}
 use Rattle.cluster_model.specs.Inner.Locations.{location_in, rule_locations_in}
 use Rattle.cluster_model.specs.Nodes.{node_in}
-use Rattle.cluster_model.specs.Options.{properties_of, setting_of}
+use Rattle.cluster_model.specs.Options.{policy_of, properties_of}
 use Rattle.cluster_model.specs.Inner.Orders.{orders_in}
 use Rattle.cluster_model.specs.Inner.Resolution.{cause_after, cluster_of, resolution_by}
 use Rattle.cluster_model.specs.Resolution.{resolution_of}
-use Rattle.faults.specs.declared.fault.Fault.{Fault}
-use Rattle.faults.specs.Reading.{fault_at, unless}
+use Rattle.faults.specs.Reading.{unless}
 use Rattle.faults.proofs.Steps.{unless-ok}
 use Rattle.crm_parse.proofs.SameForms.{IsLineless, alike, clear, cleared, each-lineless, forms, unless-none}
 use Rattle.cluster_model.proofs.RulesSaid.{resolution_is}
-
-setting-lineless : (key : List ℕ) → IsLineless (setting_of key)
-setting-lineless key [] = refl
-setting-lineless key (s ∷ statements) = ap (λ (o : Option (List ℕ)). option_or (value_of key (properties_in s.form)) o) (setting-lineless key statements)
+use Rattle.cluster_model.proofs.SameLeaves.{none-at, option-lineless}
 
 properties-lineless : IsLineless properties_of
 unfolding properties_of
 properties-lineless statements =
     rw (
-      setting-lineless (codes "symmetric-cluster") statements,
-      setting-lineless (codes "stonith-enabled") statements,
-      setting-lineless (codes "startup-fencing") statements,
-      setting-lineless (codes "no-quorum-policy") statements,
-      setting-lineless (codes "start-failure-is-fatal") statements,
-      setting-lineless (codes "stop-all-resources") statements,
-      setting-lineless (codes "batch-limit") statements,
+      option-lineless bool_of (codes "symmetric-cluster") statements,
+      option-lineless bool_of (codes "stonith-enabled") statements,
+      option-lineless bool_of (codes "startup-fencing") statements,
+      option-lineless policy_of (codes "no-quorum-policy") statements,
+      option-lineless bool_of (codes "start-failure-is-fatal") statements,
+      option-lineless bool_of (codes "stop-all-resources") statements,
+      option-lineless count_of (codes "batch-limit") statements,
     ) refl
 
 members-lineless : (n : ℕ) → IsLineless (grouped_from n)
@@ -79,11 +73,6 @@ module _ (d : Directory) (leaves : List Leaf) where
       let counts = ap counts_of more ∙ counted-lineless nothing_counted (before ++ s ∷ []) in
       let cluster = ap (cluster_of d leaves) more ∙ cluster-lineless d leaves (before ++ s ∷ []) in
       rw (counts, cluster) refl
-
-  none-at : (line other : ℕ) (cause why : Option ModelCause) (more again : Option (Fault ModelCause)) → why ≡ cause → is_none again ≡ is_none more
-      → is_none (fault_at other why again) ≡ is_none (fault_at line cause more)
-  none-at line other None why more again e h = rw e h
-  none-at line other (Some cause) why more again e h = rw e refl
 
   sound-lineless : (before : List Statement) → (statements : List Statement)
       → is_none (first_fault (cause_after d leaves) (cleared before) (cleared statements)) ≡ is_none (first_fault (cause_after d leaves) before statements)

@@ -4,7 +4,6 @@ use Rattle.std.specs.List.{flat_map}
 use Rattle.std.specs.Option.{option_or}
 use Rattle.crm_parse.specs.declared.statement.Statement.{Statement}
 use Rattle.crm_parse.specs.Values.{bool_of}
-use Rattle.cluster_model.specs.declared.expansion.expand_fault.ExpandCause.{ExpandCause}
 use Rattle.cluster_model.specs.declared.expansion.kinds.Kind.{Kind}
 use Rattle.cluster_model.specs.declared.expansion.leaves.Leaves.{Leaves}
 use Rattle.cluster_model.specs.declared.expansion.leaves.Span.{Span}
@@ -22,8 +21,8 @@ use Rattle.cluster_model.specs.Inner.Groups.{grouped_by, grouped_in}
 use Rattle.cluster_model.specs.Inner.Leaves.{leaf_in, leaves_of, surroundings_of}
 use Rattle.cluster_model.specs.Inner.Metas.{meta_of, no_meta, or_meta}
 use Rattle.cluster_model.specs.Metas.{read_as}
-use Rattle.cluster_model.specs.Settings.{count_nodes, defaults_in, node_names_in, properties_in}
-use Rattle.cluster_model.specs.Inner.Settings.{defaults_from, option_from}
+use Rattle.cluster_model.specs.Settings.{count_nodes, defaults_in, node_names_in, option_as, properties_in}
+use Rattle.cluster_model.specs.Inner.Settings.{defaults_from}
 use Rattle.cluster_model.specs.Inner.Spans.{ends_by, group_ends_in, numbers_of, span_in, spans_of}
 use Rattle.cluster_types.specs.declared.leaf.Leaf.{Leaf}
 use Rattle.faults.specs.declared.fault.Fault.{Fault}
@@ -32,9 +31,10 @@ use Rattle.faults.proofs.Steps.{unless-ok}
 use Rattle.crm_parse.proofs.SameForms.{IsLineless, alike, cleared, each-lineless, forms, unless-none}
 use Rattle.cluster_model.proofs.ExpansionSaid.{expansion_is}
 
-option-lineless : (key : List ℕ) (found : Option Bool) → IsLineless (option_from key found)
-option-lineless key found [] = refl
-option-lineless key found (s ∷ statements) = option-lineless key (option_or found (read_as bool_of key (properties_in s.form))) statements
+pub option-lineless : {V : Type 0} (reader : List ℕ → Option V) (key : List ℕ) → IsLineless (option_as reader key)
+option-lineless reader key [] = refl
+option-lineless reader key (s ∷ statements) =
+    ap (λ (found : Option _). option_or (read_as reader key (properties_in s.form)) found) (option-lineless reader key statements)
 
 defaults-lineless : (found : Meta) → IsLineless (defaults_from found)
 defaults-lineless found [] = refl
@@ -68,8 +68,8 @@ made a b c d e f g h i j one two three four five = cc
 surroundings-lineless : IsLineless surroundings_of
 unfolding surroundings_of
 surroundings-lineless statements =
-    made _ _ _ _ _ _ _ _ _ _ (ap (λ (o : Option Bool). unwrap_or o true) (option-lineless (codes "stonith-enabled") None statements))
-    (ap (λ (o : Option Bool). unwrap_or o false) (option-lineless (codes "maintenance-mode") None statements))
+    made _ _ _ _ _ _ _ _ _ _ (ap (λ (o : Option Bool). unwrap_or o true) (option-lineless bool_of (codes "stonith-enabled") statements))
+    (ap (λ (o : Option Bool). unwrap_or o false) (option-lineless bool_of (codes "maintenance-mode") statements))
     (defaults-lineless no_meta statements) (cloned-lineless statements) (grouped-lineless statements)
 
 leaves-lineless : IsLineless leaves_of
@@ -95,16 +95,16 @@ with_spans-lineless statements =
     (ap (λ (l : List Leaf). spans_of l (cleared statements)) (leaves-lineless statements) ∙ spans-lineless (leaves_of statements) statements)
 
 -- whether a statement is at fault
-none-at : (line other : ℕ) (cause : Option ExpandCause) (more again : Option (Fault ExpandCause)) → is_none again ≡ is_none more
-    → is_none (fault_at other cause again) ≡ is_none (fault_at line cause more)
-none-at line other None more again h = h
-none-at line other (Some cause) more again h = refl
+pub none-at : {C : Type 0} (line other : ℕ) (cause why : Option C) (more again : Option (Fault C)) → why ≡ cause → is_none again ≡ is_none more
+    → is_none (fault_at other why again) ≡ is_none (fault_at line cause more)
+none-at line other None why more again e h = rw e h
+none-at line other (Some cause) why more again e h = rw e refl
 
 sound-lineless : (kinds : List (List ℕ × Kind)) (seen : Seen) → IsLineless (λ statements. is_none (first_expand_fault kinds seen statements))
 sound-lineless kinds seen [] = refl
 sound-lineless kinds seen (s ∷ statements) =
-    none-at s.line 0 (expand_cause_of kinds seen s.form) (first_expand_fault kinds (seen_after seen s.form) statements) (first_expand_fault kinds (seen_after seen s.form) (cleared statements))
-    (sound-lineless kinds (seen_after seen s.form) statements)
+    none-at s.line 0 (expand_cause_of kinds seen s.form) (expand_cause_of kinds seen s.form) (first_expand_fault kinds (seen_after seen s.form) statements) (first_expand_fault kinds (seen_after seen s.form) (cleared statements))
+    refl (sound-lineless kinds (seen_after seen s.form) statements)
 
 fault-lineless : IsLineless (λ statements. is_none (fault_of statements))
 unfolding fault_of

@@ -1,6 +1,6 @@
 -- What holds of the whole cluster: its nodes, its options, and the defaults of its resources (Pacemaker Explained, "Cluster Options" and
 -- "Setting Global Defaults for Resource Meta-Attributes").
-use Rattle.std.specs.Prelude.{ℕ, Bool, List, [], ◌∷◌, length, unwrap_or, map}
+use Rattle.std.specs.Prelude.{ℕ, Bool, List, [], ◌∷◌, length, unwrap_or, map, Option}
 use Rattle.std.specs.List.{flat_map}
 use Rattle.crm_parse.specs.declared.form.Form.{Form}
 use Rattle.crm_parse.specs.declared.form.Form.TheVariants as form
@@ -28,6 +28,10 @@ node_names_in _ = []
 abbrev pub count_nodes : List Statement → ℕ
 count_nodes statements = length (flat_map (λ s. node_names_in s.form) statements)
 
+-- an option of the cluster by a reader of its values: what the first statement says that gives such a value
+abbrev pub option_as : {V : Type 0} → (List ℕ → Option V) → List ℕ → List Statement → Option V
+option_as reader key statements = first_given reader key (map (λ s. properties_in s.form) statements)
+
 -- an option of the cluster that is yes or no
 abbrev pub option_given : List ℕ → Bool → List Statement → Bool
-option_given key default statements = unwrap_or (first_given bool_of key (map (λ s. properties_in s.form) statements)) default
+option_given key default statements = unwrap_or (option_as bool_of key statements) default

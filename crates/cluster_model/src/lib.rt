@@ -17,7 +17,7 @@ mod laws;
 pub use expansion::expand_fault::{ExpandCause, ExpandFault, expand_name};
 pub use expansion::leaf_laws::{each_primitive_is_a_leaf, leaf_names_differ};
 pub use expansion::leaves::{Leaves, Span};
-pub(crate) use expansion::settings::properties_in;
+pub(crate) use expansion::settings::{option_given, properties_in};
 pub use expansion::whole::expand;
 pub use laws::{
     resolved_clusters_are_valid, resolved_rules_have_no_loop, resolved_rules_name_able_leaves,

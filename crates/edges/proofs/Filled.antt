@@ -3,11 +3,13 @@ use Rattle.std.proofs.Common.{arith, ◌≡◌, ◌<◌, ◌≤◌, ◌+◌, ◌
 use Rattle.std.proofs.lemmas.Bool.{cases_eq, cases_lt, ne_eqb, eq-eqb}
 use Rattle.std.proofs.lemmas.List.{get_or-set_same, get_or-set_other, length-set, length-take, length-drop, length-map, map-append, get_or-take, get_or-drop, get_or_append_left, get_or-append-add, ext_get_or, append-nil}
 use Rattle.std.proofs.lemmas.List.Elements.{filter_more}
+use Rattle.std.proofs.lemmas.List.FromFn.{fill_by_all, get_or-map-range_with_len, length-map-range_with_len}
 use Rattle.std.proofs.lemmas.List.Sums.{count_by-le-length, length-filter, sum_by-take-drop}
 use Rattle.lemmas.proofs.Counts.{count-cons, count-is, count_agree, count_more}
 use Rattle.edges.specs.declared.edge.Edge.{Edge}
 use Rattle.edges.specs.declared.side.Side.TheVariants.{Before}
-use Rattle.edges.specs.Rows.{AreRows, edges_at, edges_below, edge_targets_of, row_of}
+use Rattle.edges.specs.Rows.{edges_at, edge_targets, edge_targets_of}
+use Rattle.edges.specs.Inner.Rows.{AreRows, StandInList, all_rows, edges_below, row_of}
 use Rattle.edges.proofs.Counted.{at_more, at_same}
 
 -- the edges below a position, and those from it, are those below the next
@@ -230,6 +232,34 @@ module _ (positions : ℕ) (edges : List Edge) (ends targets : List ℕ) (rows :
   -- the row of a position is where its edges lead
   pub row_is : row_of ends targets x ≡ edge_targets_of edges x
   row_is = ext_get_or 0 (row_of ends targets x) (edge_targets_of edges x) row_long row_at
+
+-- there is a row for each end, and each is where it stands
+pub rows_many : (ends targets : List ℕ) → length (all_rows ends targets) ≡ length ends
+rows_many ends targets = length-map-range_with_len (row_of ends targets) 0 (length ends)
+
+pub row_there : (ends targets : List ℕ) (x : ℕ) → x < length ends → slice_index_or (all_rows ends targets) x [] ≡ row_of ends targets x
+row_there ends targets x low = get_or-map-range_with_len (row_of ends targets) 0 (length ends) x x [] low (omega arith)
+
+module _ (positions : ℕ) (edges : List Edge) (ends targets : List ℕ) (rows : AreRows positions edges edges ends targets) where
+  pub rows_stand : StandInList ends targets
+  rows_stand = record {
+    order = λ x low. row_order positions edges ends targets rows x (let s = rows.size in omega arith);
+    room = λ x low. row_room positions edges ends targets rows x (let s = rows.size in omega arith);
+  }
+
+  -- the rows are where the edges from each position lead
+  pub rows_are : all_rows ends targets ≡ edge_targets positions edges
+  rows_are =
+      fill_by_all (edge_targets_of edges) (all_rows ends targets) positions []
+      (rows_many ends targets ∙ rows.size)
+      (λ x low. row_there ends targets x (let s = rows.size in omega arith) ∙ row_is positions edges ends targets rows x low)
+
+-- there is a list for each position, and it is where the edges from it lead
+pub target_lists : (positions : ℕ) (edges : List Edge) → length (edge_targets positions edges) ≡ positions
+target_lists positions edges = length-map-range_with_len (edge_targets_of edges) 0 positions
+
+pub targets_at : (positions : ℕ) (edges : List Edge) (x : ℕ) → x < positions → slice_index_or (edge_targets positions edges) x [] ≡ edge_targets_of edges x
+targets_at positions edges x low = get_or-map-range_with_len (edge_targets_of edges) 0 positions x x [] low (omega arith)
 
 -- no edge is filled in yet
 pub none_filled : (positions : ℕ) (edges : List Edge) (ends targets : List ℕ) → length ends ≡ positions → length targets ≡ length edges

@@ -13,7 +13,8 @@ use Rattle.cluster_types.specs.Steps.{ended, in_flight_by_number, is_from_outsid
 use Rattle.cluster_types.proofs.SilentEnds.{silent_end-is}
 use Rattle.run_safety.proofs.ByNumber.{by_number}
 use Rattle.run_safety.proofs.InFlight.{number_within}
-use Rattle.graph_exec.specs.Running.{Running, EndedSilently, IsAnswerRefused, IsUnderWay, Took, going}
+use Rattle.graph_exec.specs.Running.{Running, IsAnswerRefused, IsUnderWay, Took, going}
+use Rattle.graph_exec.specs.Inner.Running.{EndedSilently}
 use Rattle.graph_exec.specs.Running as running
 use Rattle.graph_exec.specs.Saying.{AgreesOn, AgreesSilent}
 use Rattle.graph_exec.specs.Transitions.{Accords}

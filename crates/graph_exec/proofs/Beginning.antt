@@ -14,8 +14,9 @@ use Rattle.cluster_types.specs.Steps.{Begins, numbers, may_begin, is_settled, ha
 use Rattle.listed.specs.Sets.{is_member, members}
 use Rattle.graph_exec.specs.Ready.{inputs_have_succeeded, startable}
 use Rattle.graph_exec.specs.Flights.{InFlightOf, pairs_in_flight, paired}
-use Rattle.graph_exec.specs.Logs.{LogOf}
-use Rattle.graph_exec.specs.Running.{Running, InFlightFollows, going, running}
+use Rattle.graph_exec.specs.Inner.Logs.{LogOf}
+use Rattle.graph_exec.specs.Running.{Running, going}
+use Rattle.graph_exec.specs.Inner.Running.{InFlightFollows, running}
 use Rattle.graph_exec.proofs.FirstOf.{IsFirst, first_is, none_passes, never}
 use Rattle.run_safety.proofs.ByNumber.{numbered_is}
 use Rattle.graph_exec.proofs.Pairs.{among, of_numbers, pairs_many}

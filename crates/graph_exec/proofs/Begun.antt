@@ -10,9 +10,11 @@ use Rattle.cluster_types.specs.declared.journal.Event.TheVariants.{Begin}
 use Rattle.cluster_types.specs.Steps as steps
 use Rattle.listed.specs.Sets.{is_member}
 use Rattle.graph_exec.specs.Ready.{startable}
-use Rattle.graph_exec.specs.Flights.{InFlightOf, with_begun}
-use Rattle.graph_exec.specs.Logs.{LogOf}
-use Rattle.graph_exec.specs.Running.{Running, InFlightFollows, going, running}
+use Rattle.graph_exec.specs.Flights.{InFlightOf}
+use Rattle.graph_exec.specs.Inner.Flights.{with_begun}
+use Rattle.graph_exec.specs.Inner.Logs.{LogOf}
+use Rattle.graph_exec.specs.Running.{Running, going}
+use Rattle.graph_exec.specs.Inner.Running.{InFlightFollows, running}
 use Rattle.graph_exec.proofs.Beginning as beginning
 use Rattle.graph_exec.proofs.Beginning.{one}
 use Rattle.graph_exec.proofs.OneMore.{Adds, set_one}

@@ -16,7 +16,8 @@ use Rattle.run_safety.proofs.Printed.{answer_line, end_line}
 use Rattle.graph_exec.specs.declared.transition.ends.WatchedEnd.{WatchedEnd}
 use Rattle.graph_exec.specs.declared.transition.ends.WatchedEnd.TheVariants as how
 use Rattle.graph_exec.specs.Inner.Rounds.{Advanced, Answered, Began, StopsAs, asks_left, begins_left}
-use Rattle.graph_exec.specs.Running.{Running, EndedSilently, Took, Went, going, later}
+use Rattle.graph_exec.specs.Running.{Running, Took, Went, going, later}
+use Rattle.graph_exec.specs.Inner.Running.{EndedSilently}
 use Rattle.graph_exec.specs.Transitions.{EndsAs, GoneTo, HasGoneToEnd, IsExpected}
 use Rattle.graph_exec.proofs.Fewer.{asks_fewer, begin_leaves, silent_leaves, take_leaves}
 use Rattle.graph_exec.proofs.Flying.{many_flying}

@@ -13,7 +13,8 @@ use Rattle.cluster_types.specs.Steps as steps
 use Rattle.cluster_types.specs.Steps.{Transition, StepsOn, HasEnded, IsWaiting, in_flight_by_number, has_aborted, journal, count_from_outside}
 use Rattle.cluster_types.specs.Texts.{event_lines}
 use Rattle.graph_exec.specs.Logs.{JournalOf}
-use Rattle.graph_exec.specs.Running.{Running, Went, going, known_of}
+use Rattle.graph_exec.specs.Running.{Running, Went, going}
+use Rattle.graph_exec.specs.Inner.Running.{running_journal}
 use Rattle.graph_exec.specs.Telling.{closing_line}
 use Rattle.graph_exec.specs.Transitions.{IsAborted, IsComplete, IsCutBy, WentAsSaid, WentTo}
 use Rattle.graph_exec.specs.Watching.{IsWatcherCutOff, IsWatcherCutOffAsking, AreLinesTold}
@@ -51,7 +52,7 @@ module _ (whole steady : Bool) (k : ℕ) (r now : Running) (fresh : r.since ≡ 
       module _ (complete : Bool)
           (step : (w : Bool) (xs : Option (List Answer)) → RunsOn r.cluster r.promotions w (amid k (going r) now.since) xs (closing_line k complete ∷ []) (closed_at k complete (journal (going r) now.since)) xs) where
         closed_to : (Then All : List RunLine → Type 0) → ((lines more : List RunLine) → First lines → Then more → All (lines ++ more))
-            → (steady ≡ true → over_now ≡ false → WentAsSaid r now rest left) → Then (closing_line k complete ∷ []) → (j : JournalOf) → j ≡ known_of now
+            → (steady ≡ true → over_now ≡ false → WentAsSaid r now rest left) → Then (closing_line k complete ∷ []) → (j : JournalOf) → j ≡ running_journal now
             → CameTo All here_set (amid k (going r) []) (sight rest over) (sight left over_now) (closed_at k complete) j
         closed_to Then All join said closed j is =
             let events : j.events ≡ journal (going r) now.since = ap (λ (x : JournalOf). x.events) is ∙ ap (λ (x : Running). x.planned_at ++ now.since) went.same in
@@ -106,11 +107,11 @@ module _ (whole steady : Bool) (k : ℕ) (r now : Running) (fresh : r.since ≡ 
 
       module _ (Then All : List RunLine → Type 0) (join : (lines more : List RunLine) → First lines → Then more → All (lines ++ more)) where
         pub closes_complete : IsComplete now → (steady ≡ true → over_now ≡ false → WentAsSaid r now rest left) → Then (closing_line k true ∷ [])
-            → (j : JournalOf) → j ≡ known_of now → CameTo All here_set (amid k (going r) []) (sight rest over) (sight left over_now) (closed_at k true) j
+            → (j : JournalOf) → j ≡ running_journal now → CameTo All here_set (amid k (going r) []) (sight rest over) (sight left over_now) (closed_at k true) j
         closes_complete e said closed j is = closed_to true (complete_step e) Then All join said closed j is
 
         pub closes_aborted : (first : Event) → IsAborted now first → (steady ≡ true → over_now ≡ false → WentAsSaid r now rest left)
-            → Then (closing_line k false ∷ []) → (j : JournalOf) → j ≡ known_of now
+            → Then (closing_line k false ∷ []) → (j : JournalOf) → j ≡ running_journal now
             → CameTo All here_set (amid k (going r) []) (sight rest over) (sight left over_now) (closed_at k false) j
         closes_aborted first e said closed j is = closed_to false (aborted_step first e) Then All join said closed j is
 

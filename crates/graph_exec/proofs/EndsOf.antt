@@ -15,9 +15,11 @@ use Rattle.cluster_types.specs.Answering.{is_number_of}
 use Rattle.cluster_types.specs.Journals.{moment_of}
 use Rattle.cluster_types.specs.Steps.{is_success, is_from_outside, ended, in_flight_by_number, has_begun, has_number_ended, has_succeeded}
 use Rattle.listed.specs.Sets.{is_member}
-use Rattle.graph_exec.specs.Flights.{InFlightOf, pairs_in_flight, with_ended}
-use Rattle.graph_exec.specs.Logs.{LogOf}
-use Rattle.graph_exec.specs.Running.{Running, InFlightFollows, going, running}
+use Rattle.graph_exec.specs.Flights.{InFlightOf, pairs_in_flight}
+use Rattle.graph_exec.specs.Inner.Flights.{with_ended}
+use Rattle.graph_exec.specs.Inner.Logs.{LogOf}
+use Rattle.graph_exec.specs.Running.{Running, going}
+use Rattle.graph_exec.specs.Inner.Running.{InFlightFollows, running}
 use Rattle.graph_exec.proofs.Beginning.{one, same_pairs}
 use Rattle.graph_exec.proofs.Flying.{ended_of}
 use Rattle.graph_exec.proofs.OneMore.{Adds, set_one, unset_one}

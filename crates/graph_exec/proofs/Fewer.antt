@@ -21,7 +21,8 @@ use Rattle.cluster_types.specs.Steps.{Begins, EndsSilently, begins_number, ended
 use Rattle.cluster_types.proofs.StepLaws.{not_begun}
 use Rattle.run_safety.proofs.InFlight.{number_within}
 use Rattle.graph_exec.specs.Inner.Rounds.{begins_left, ends_left, asks_left}
-use Rattle.graph_exec.specs.Running.{Running, all_gone, going}
+use Rattle.graph_exec.specs.Running.{Running, going}
+use Rattle.graph_exec.specs.Inner.Running.{all_gone}
 use Rattle.graph_exec.specs.Running as running
 use Rattle.graph_exec.proofs.Flying.{ended_of, flying_is}
 use Rattle.run_safety.proofs.ByNumber.{action_of}

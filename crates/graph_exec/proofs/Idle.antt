@@ -9,7 +9,8 @@ use Rattle.cluster_types.specs.Answering.{added_by, applies_after}
 use Rattle.cluster_types.specs.Steps.{Transition, action_at, answer_events, in_flight_by_number, is_from_outside, is_number_in_flight, journal, numbers, count_from_outside, resting}
 use Rattle.graph_exec.specs.Logs.{JournalOf}
 use Rattle.graph_exec.specs.Resting.{IsRefusedResting, IsResting, TookResting, resting_at}
-use Rattle.graph_exec.specs.Running.{Running, going, known_of, later}
+use Rattle.graph_exec.specs.Running.{Running, going, later}
+use Rattle.graph_exec.specs.Inner.Running.{running_journal}
 
 none_flying : (t : Transition) (since : List Event) → t.actions ≡ [] → in_flight_by_number t since ≡ []
 none_flying t since e =
@@ -47,9 +48,9 @@ module _ (r : Running) (is : IsResting r) where
   pub takes_resting : (given : Answer) (b : Bool)
       → b ≡ applies_after r.cluster (journal (going r) r.since) (in_flight_by_number (going r) r.since) (count_from_outside (going r) r.since) given → b ≡ true
       → (now : Running) → now ≡ later r (answer_events (going r) r.since given)
-      → (j : JournalOf) → j ≡ known_of now → TookResting (resting_at r) j given
+      → (j : JournalOf) → j ≡ running_journal now → TookResting (resting_at r) j given
   takes_resting given b says so now goes j left = record {
     applies = sym (resting_applies given) ∙ sym says ∙ so;
-    goes_on = left ∙ ap known_of goes ∙ ap (λ (since : List Event). rests_with (r.planned_at ++ (since ++ answer_events (going r) r.since given))) is.nothing_new
+    goes_on = left ∙ ap running_journal goes ∙ ap (λ (since : List Event). rests_with (r.planned_at ++ (since ++ answer_events (going r) r.since given))) is.nothing_new
         ∙ ap (λ (events : List Event). rests_with (r.planned_at ++ events)) (resting_adds given);
   }

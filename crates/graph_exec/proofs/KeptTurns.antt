@@ -26,7 +26,8 @@ use Rattle.cluster_types.specs.Tables.{targets_of}
 use Rattle.cluster_types.specs.Texts.{all_passed_lines, end_lines, event_lines, target_lines}
 use Rattle.cluster_types.proofs.SourceLaws.{carries-out}
 use Rattle.graph_exec.specs.Logs.{JournalOf}
-use Rattle.graph_exec.specs.Running.{Running, Went, going, known_of}
+use Rattle.graph_exec.specs.Running.{Running, Went, going}
+use Rattle.graph_exec.specs.Inner.Running.{running_journal}
 use Rattle.graph_exec.specs.Transitions.{IsAborted, IsComplete, IsCutBy, WentAsSaid, WentTo}
 use Rattle.graph_exec.proofs.Beginning.{found_so}
 use Rattle.graph_exec.proofs.Said.{taken_none}
@@ -171,11 +172,11 @@ module _ (j : JournalOf) (p : Planned) (ready : IsReady j p) (whole steady : Boo
       ends_there : to ≡ length j.events + length now.since
       ends_there = ends ∙ length-append now.planned_at now.since ∙ ap (λ (x : List Event). length x + length now.since) planned_same
 
-      known_events : (later : JournalOf) → later ≡ known_of now → j.events ++ now.since ≡ later.events
+      known_events : (later : JournalOf) → later ≡ running_journal now → j.events ++ now.since ≡ later.events
       known_events later e = sym (ap (λ (x : JournalOf). x.events) e ∙ ap (λ (x : List Event). x ++ now.since) planned_same)
 
       module _ (over_now : Bool) (stays : steady ≡ true → over ≡ true → over_now ≡ true) (said : steady ≡ true → over_now ≡ false → WentAsSaid p.executor now rest left) where
-        idle_there : how ≡ passed_as.Complete → IsComplete now → (later : JournalOf) → later ≡ known_of now
+        idle_there : how ≡ passed_as.Complete → IsComplete now → (later : JournalOf) → later ≡ running_journal now
             → KeepsPassed here_set es first left over_now all (idle (1 + length passed) later.events)
         idle_there e complete later known =
             subst (λ (x : List Passed). KeepsPassed here_set es first left over_now x (idle (1 + length passed) later.events)) (all_are passed_as.Complete e)
@@ -185,7 +186,7 @@ module _ (j : JournalOf) (p : Planned) (ready : IsReady j p) (whole steady : Boo
             (λ always open_still. said_fresh (said always open_still)) from to begins ends_there complete.ended complete.unaborted))
 
         -- an answer came while nothing was to be done
-        pub goes_on_answered : how ≡ passed_as.Complete → IsComplete now → (later : JournalOf) → later ≡ known_of now → (unread : Option (List Answer)) (over_then : Bool)
+        pub goes_on_answered : how ≡ passed_as.Complete → IsComplete now → (later : JournalOf) → later ≡ running_journal now → (unread : Option (List Answer)) (over_then : Bool)
             → (steady ≡ true → over_now ≡ true → over_then ≡ true) → (taken : Taken) → IsAnswered whole later left unread taken
             → KeepsTo here_set es first unread over_then all taken.journal
         goes_on_answered e complete later known unread over_then still taken w =
@@ -196,14 +197,14 @@ module _ (j : JournalOf) (p : Planned) (ready : IsReady j p) (whole steady : Boo
             over_then still (omega (arith, longer)) taken.answer w.said taken.journal w.took)
 
         -- none came that applies
-        pub ends_unanswered_there : how ≡ passed_as.Complete → IsComplete now → (later : JournalOf) → later ≡ known_of now → (unread : Option (List Answer))
+        pub ends_unanswered_there : how ≡ passed_as.Complete → IsComplete now → (later : JournalOf) → later ≡ running_journal now → (unread : Option (List Answer))
             → (end : RunEnd) → IsUnanswered whole later left unread over_now end → KeepsEnd here_set es first unread all end
         ends_unanswered_there e complete later known unread end w =
             kept_unanswered here_set es first left unread over_now all (1 + length passed) later
             (ap (λ (x : JournalOf). x.cluster) known ∙ ap (λ (r : Running). r.cluster) went_fresh.same) (idle_there e complete later known)
             (ap (λ (x : JournalOf). x.promotions) known ∙ ap (λ (r : Running). r.promotions) went_fresh.same) end w
 
-        pub goes_on_aborted : (event : Event) → how ≡ passed_as.Aborted → IsAborted now event → (later : JournalOf) → later ≡ known_of now
+        pub goes_on_aborted : (event : Event) → how ≡ passed_as.Aborted → IsAborted now event → (later : JournalOf) → later ≡ running_journal now
             → KeepsTo here_set es first left over_now all later
         goes_on_aborted event e aborted later known =
             let longer = one_longer in

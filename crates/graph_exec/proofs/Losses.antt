@@ -13,7 +13,8 @@ use Rattle.cluster_types.specs.declared.journal.Outcome.TheVariants.{Gone}
 use Rattle.cluster_types.specs.Answering.{end_event}
 use Rattle.cluster_types.specs.Journals.{is_on, moment_of, seconds_of}
 use Rattle.cluster_types.specs.Steps.{ended, numbers_in_flight, in_flight_by_number, is_from_outside, is_number_in_flight, count_from_outside}
-use Rattle.graph_exec.specs.Running.{Running, all_gone, going, later}
+use Rattle.graph_exec.specs.Running.{Running, going, later}
+use Rattle.graph_exec.specs.Inner.Running.{all_gone}
 use Rattle.run_safety.proofs.ByNumber.{action_of, with_action}
 use Rattle.graph_exec.proofs.Flying.{StandsAt, event, flying_is, gone_is, rest_same}
 

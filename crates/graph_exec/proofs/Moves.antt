@@ -7,7 +7,7 @@ use Rattle.std.proofs.lemmas.Map.Keys.{IsDistinct-push}
 use Rattle.std.proofs.lemmas.Option.{slice_get_within, get_or_from_slice_get}
 use Rattle.cluster_types.specs.Graphs.{GraphOf, IsGraph}
 use Rattle.listed.specs.Sets.{is_member, members}
-use Rattle.graph_exec.specs.Freed.{ClearsGates, ClearingRests}
+use Rattle.graph_exec.specs.Inner.Freed.{ClearsGates, ClearingRests}
 use Rattle.edges.specs.declared.side.Side.TheVariants.{After}
 use Rattle.edges.specs.Rows.{edges_at}
 use Rattle.graph_exec.specs.Ready.{startable}
@@ -164,8 +164,8 @@ module _ (g : GraphOf) (graph : IsGraph g) (begun succeeded ready : List Bool) (
 
 -- the same of all that is kept
 
-module _ (g : GraphOf) (ends targets : List ℕ) (begun succeeded ready : List Bool) (left cleared : List ℕ) (room : ℕ)
-    (r : ClearingRests g ends targets begun succeeded ready left cleared room) where
+module _ (g : GraphOf) (rows : List (List ℕ)) (begun succeeded ready : List Bool) (left cleared : List ℕ) (room : ℕ)
+    (r : ClearingRests g rows begun succeeded ready left cleared room) where
   pub startable_found : (k : ℕ) → slice_get (startable (record { graph = g; begun = begun; succeeded = succeeded })) 0 ≡ Some k → IsMember ready k
   startable_found k at =
       member_found ready k (ap (λ (xs : List ℕ). slice_get xs 0) (are_startable g r.graph begun succeeded ready left cleared r.clears) ∙ at)
@@ -174,14 +174,14 @@ module _ (g : GraphOf) (ends targets : List ℕ) (begun succeeded ready : List B
   sizes = r.clears.ready_size ∙ sym r.begun_size
 
   pub begun_rests : (k : ℕ) → IsMember ready k
-      → ClearingRests g ends targets (slice_set begun (k - 1) true) succeeded (slice_set ready (k - 1) false) left cleared room
+      → ClearingRests g rows (slice_set begun (k - 1) true) succeeded (slice_set ready (k - 1) false) left cleared room
   begun_rests k m =
       let low = m.low in
       let high = m.high in
       let s = r.clears.ready_size in
       record {
         graph = r.graph;
-        rows = r.rows;
+        rows_are = r.rows_are;
         has_room = r.has_room;
         begun_size = length-set begun (k - 1) true ∙ r.begun_size;
         succeeded_size = r.succeeded_size;

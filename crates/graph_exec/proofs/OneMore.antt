@@ -11,8 +11,9 @@ use Rattle.cluster_types.specs.Steps.{begins_number, succeeds_number, has_begun,
 use Rattle.listed.specs.Sets.{is_member}
 use Rattle.run_safety.proofs.Preceded.{success_ends}
 use Rattle.graph_exec.specs.Flights.{InFlightOf}
-use Rattle.graph_exec.specs.Logs.{LogOf, logged}
-use Rattle.graph_exec.specs.Running.{IsNumberKept, InFlightFollows, going, running, events_to_come}
+use Rattle.graph_exec.specs.Inner.Logs.{LogOf, logged}
+use Rattle.graph_exec.specs.Running.{going}
+use Rattle.graph_exec.specs.Inner.Running.{IsNumberKept, InFlightFollows, running, events_to_come}
 
 -- what is in flight after: what was or begins, and doesn't end
 flies_on : (begun ended begins ends : Bool) → (ended ≡ true → begun ≡ true) → (begins ≡ true → begun ≡ false)

@@ -10,8 +10,8 @@ use Rattle.cluster_types.specs.Journals.{ends_number}
 use Rattle.cluster_types.specs.Steps.{begins_number, succeeds_number, is_from_outside}
 use Rattle.listed.specs.Sets.{is_member}
 use Rattle.graph_exec.specs.Flights.{InFlightOf}
-use Rattle.graph_exec.specs.Logs.{LogOf}
-use Rattle.graph_exec.specs.Running.{InFlightFollows}
+use Rattle.graph_exec.specs.Inner.Logs.{LogOf}
+use Rattle.graph_exec.specs.Inner.Running.{InFlightFollows}
 use Rattle.graph_exec.proofs.Beginning.{one}
 use Rattle.graph_exec.proofs.OneMore.{Adds}
 

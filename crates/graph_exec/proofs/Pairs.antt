@@ -10,7 +10,8 @@ use Rattle.cluster_types.specs.declared.journal.Action.{Action}
 use Rattle.cluster_types.specs.Answering.{is_number_of}
 use Rattle.listed.specs.Sets.{is_member, members}
 use Rattle.run_safety.proofs.ByNumber.{with_action, flat_is}
-use Rattle.graph_exec.specs.Flights.{InFlightOf, HasFlagOfEach, pairs_in_flight}
+use Rattle.graph_exec.specs.Flights.{InFlightOf, pairs_in_flight}
+use Rattle.graph_exec.specs.Inner.Flights.{HasFlagOfEach}
 
 -- which numbers are among those that pass a test
 none_below : (p : ℕ → Bool) (k a n : ℕ) → k < a → list_any (λ j. j == k) (filter p (range_with_len a n)) ≡ false

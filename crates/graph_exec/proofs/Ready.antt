@@ -15,7 +15,8 @@ use Rattle.cluster_types.specs.Steps.{Transition}
 use Rattle.cluster_types.specs.Valid.{IsValid}
 use Rattle.graph_exec.specs.Logs.{JournalOf}
 use Rattle.graph_exec.specs.Promises.{IsGraphPlanned}
-use Rattle.graph_exec.specs.Running.{Running, Went, going, known_of}
+use Rattle.graph_exec.specs.Running.{Running, Went, going}
+use Rattle.graph_exec.specs.Inner.Running.{running_journal}
 use Rattle.graph_exec.specs.Telling.{StopsAmong, plan_lines}
 use Rattle.graph_exec.specs.Transitions.{Accords}
 use Rattle.graph_exec.specs.declared.run.planning.Planned.{Planned}
@@ -64,7 +65,7 @@ module _ (j : JournalOf) (p : Planned) (ready : IsReady j p) where
         (carried (accords_first before p.executor has_plan.planned.at_rest.1 starts_fresh
         (subst (λ (c : Cluster). before c p.executor.planned_at 0) (sym same_cluster) (subst (λ (x : List Event). before j.cluster x 0) (sym same_events) h)))) es is)
 
-    pub later_cluster : (later : JournalOf) → later ≡ known_of now → later.cluster ≡ j.cluster
+    pub later_cluster : (later : JournalOf) → later ≡ running_journal now → later.cluster ≡ j.cluster
     later_cluster later known = ap (λ (x : JournalOf). x.cluster) known ∙ stays_there whole p.executor now rest left went ∙ same_cluster
 
   same_going : (t : Transition) → t ≡ going p.executor → t ≡ going (fresh_on j p.executor.graph)

@@ -13,7 +13,8 @@ use Rattle.cluster_types.specs.Safety.{IsAtRest}
 use Rattle.cluster_types.specs.Steps.{Applies, answer_events, is_from_outside, resting}
 use Rattle.graph_exec.specs.Logs.{JournalOf}
 use Rattle.graph_exec.specs.Promises.{IsGraphPlanned}
-use Rattle.graph_exec.specs.Running.{Running, Went, known_of}
+use Rattle.graph_exec.specs.Running.{Running, Went}
+use Rattle.graph_exec.specs.Inner.Running.{running_journal}
 use Rattle.graph_exec.specs.Saying.{AgreesOn}
 use Rattle.graph_exec.specs.Transitions.{Accords}
 use Rattle.graph_exec.specs.Inner.Turns.{HasPlannedGraph}
@@ -60,7 +61,7 @@ module _ (whole : Bool) (r now : Running) (rest left : Option (List Answer)) (we
   planned_still placed is =
       subst (λ (x : Running). IsGraphPlanned x placed) (sym went.same) (record { valid = is.valid; at_rest = is.at_rest; plan = is.plan })
 
-  pub leaves_rest : HasPlannedGraph r → ((placed : Placed) → IsGraphPlanned now placed → IsAtRest (now.planned_at ++ now.since)) → (j : JournalOf) → j ≡ known_of now → IsAtRest j.events
+  pub leaves_rest : HasPlannedGraph r → ((placed : Placed) → IsGraphPlanned now placed → IsAtRest (now.planned_at ++ now.since)) → (j : JournalOf) → j ≡ running_journal now → IsAtRest j.events
   leaves_rest plan well j is =
       subst IsAtRest (sym (ap (λ (x : JournalOf). x.events) is)) (well plan.placed (planned_still plan.placed plan.planned))
 

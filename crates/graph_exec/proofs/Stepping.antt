@@ -8,7 +8,8 @@ use Rattle.cluster_types.specs.Sources.{untold}
 use Rattle.cluster_types.specs.Steps.{Transition, Goes, begins, takes, is_silent}
 use Rattle.run_safety.proofs.InFlight.{number_within}
 use Rattle.run_safety.proofs.Planned.{place_of}
-use Rattle.graph_exec.specs.Running.{Running, BeginsNow, EndedSilently, IsAnswerRefused, IsRunSettled, IsUnderWay, Took, Went, going}
+use Rattle.graph_exec.specs.Running.{Running, BeginsNow, IsAnswerRefused, IsRunSettled, IsUnderWay, Took, Went, going}
+use Rattle.graph_exec.specs.Inner.Running.{EndedSilently}
 use Rattle.graph_exec.proofs.Carrying.{goes-on, went_step, went_untold}
 
 -- what went on by steps is under way still

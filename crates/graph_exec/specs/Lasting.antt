@@ -23,11 +23,12 @@ transition_word (how.Unexpected given) = word_is (next.Answer given)
 transition_word how.SourceFault = word_is next.Failed
 transition_word _ = none_failed
 
--- the source failed only where its count of faults rose, and the watcher stopped only where its count of stops did
+-- the source failed only where its count of faults rose
 abbrev pub IsFailureCounted : ℕ → ℕ → LastWord → Type 0
 IsFailureCounted faults faults_now (word_is next.Failed) = Rose faults faults_now
 IsFailureCounted faults faults_now _ = Unit {0}
 
+-- the watcher stopped only where its count of stops did
 abbrev pub IsStopCounted : ℕ → ℕ → Heard → Type 0
 IsStopCounted stops stops_now says.Go = Unit {0}
 IsStopCounted stops stops_now says.Stop = Rose stops stops_now

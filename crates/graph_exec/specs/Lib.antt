@@ -1,6 +1,5 @@
 pub mod Inner
 pub mod Ready
-pub mod Freed
 pub mod Logs
 pub mod Flights
 pub mod Running

@@ -60,7 +60,7 @@ module _ (Follows : List RunLine → Type 0) (Stopped : List RunLine → Option 
     pub run : IsRunSoFar s.cluster s.promotions s.whole es old.rest lines journal.events new.rest
     pub told : Stopped lines None
 
-  -- the run was made up to a place between two transitions, and each line up to there was told
+  -- the run was made up to where it is in no transition, and each line up to there was told
   pub record IsBetweenTwo : Type 0 where
     pub lines : List RunLine
     pub at : RunStanding

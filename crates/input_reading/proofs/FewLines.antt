@@ -1,8 +1,8 @@
--- A text has no more lines with words than bytes, and each has a number of at most as many.
-use Rattle.std.proofs.Common.{◌≡◌, ℕ, zero, suc, ◌+◌, ◌-◌, ◌<◌, ◌≤◌, Bool, true, false, if◌then◌else◌, Option, Some, None, List, [], ◌∷◌, length, Ok, refl, subst, arith}
+-- A text has no more lines with words than bytes, and each has a number of at most as many. Each line of the configuration is one statement.
+use Rattle.std.proofs.Common.{◌≡◌, ℕ, zero, suc, ◌+◌, ◌-◌, ◌<◌, ◌≤◌, Bool, true, false, if◌then◌else◌, Option, Some, None, List, [], ◌∷◌, ◌++◌, length, Ok, refl, ap, ◌∙◌, subst, arith}
 use Rattle.std.specs.List.{AllByRecursion, slice_get}
 use Rattle.std.specs.Option.{option_map_or}
-use Rattle.std.proofs.lemmas.List.{length-append}
+use Rattle.std.proofs.lemmas.List.{length-append, length-map}
 use Rattle.faults.proofs.Steps.{unless-ok}
 use Rattle.crm_lex.specs.declared.line.Line.{Line}
 use Rattle.crm_lex.specs.LogicalLines.{line_text}
@@ -11,6 +11,10 @@ use Rattle.crm_lex.specs.Reading.{faults_from, first_lex_fault, reads, row, rows
 use Rattle.crm_lex.specs.Words.{words_of}
 use Rattle.crm_lex.proofs.FaultOrder.{count_lines}
 use Rattle.crm_lex.proofs.PhysicalLines.{few_lines}
+use Rattle.crm_parse.specs.declared.draft.DraftStatement.{DraftStatement}
+use Rattle.crm_parse.specs.declared.statement.Crm.{Crm}
+use Rattle.crm_parse.specs.Statements.{crm_of, promotable_by, statement_of, statements_of, with_lines}
+use Rattle.crm_parse.proofs.LinesRead.{Says, read_of-ok, said}
 use Rattle.lemmas.proofs.Members.{all_append}
 use Rattle.input_reading.specs.Reading.{line_behind}
 
@@ -107,3 +111,17 @@ few_lines_before text lines e =
     = subst (λ (found : List Line). AllBefore (1 + length text) found) rows
     (rows_before 1 (1 + length text) groups (some_joined false (physical_lines text)) bound) in
     one_before (1 + length text) (length lines - 1) lines (slice_get lines (length lines - 1)) all (omega arith) refl
+
+same_many : (before : List DraftStatement) (lines : List Line) (more : List DraftStatement) → Says before lines more → length more ≡ length lines
+same_many before [] [] h = refl
+same_many before [] (s ∷ more) h = absurd h
+same_many before (line ∷ lines) [] h = absurd h
+same_many before (line ∷ lines) (s ∷ more) h = ap (λ n. suc n) (same_many (before ++ s ∷ []) lines more h.1)
+
+pub few_stated : (lines : List Line) (crm : Crm) → statements_of lines ≡ Ok crm → length crm.statements ≤ length lines
+few_stated lines crm e =
+    let (drafts, read, same) = read_of-ok (with_lines [] lines) crm e in
+    let said_all = said [] lines drafts read in
+    let many : length drafts ≡ length lines = ap length said_all.added ∙ same_many [] lines said_all.more said_all.says in
+    let all : length (crm_of drafts).statements ≡ length drafts = length-map drafts (statement_of (promotable_by drafts)) in
+    subst (λ (c : Crm). length c.statements ≤ length lines) same (omega (arith, many, all))

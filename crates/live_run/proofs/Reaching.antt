@@ -20,7 +20,7 @@ use Rattle.cluster_types.specs.Texts.{run_line}
 use Rattle.crm_lex.specs.RawLines.{raw_lines}
 use Rattle.live_run.specs.Coming.{Coming, coming, no_more}
 use Rattle.live_run.specs.Courses.{SourceState, answers_to_come, in_course, rest_of, starting, stop_of, coming_to, told_by, whole_of, why_stopped}
-use Rattle.live_run.specs.Followed.{AreNear, EndsInOne, SourceFollows, HasAnswered, HasBroken, HasQuestionFailed, HasStopped, RestsBehind, StandFirst, View, answers, by_line, by_source, bytes_of, last_line, results_first, said_by, stays}
+use Rattle.live_run.specs.Followed.{AreNear, NoneOrLastSays, SourceFollows, HasAnswered, HasBroken, HasQuestionFailed, HasStopped, RestsBehind, View, answers, by_line, by_source, bytes_of, last_line, results_first, said_by, stays}
 use Rattle.live_run.specs.Saying.{is_last}
 use Rattle.live_run.specs.Writing.{line_refusal_text}
 use Rattle.live_run.proofs.Written.{prefix_first, prefix_then, stopped_text}
@@ -73,9 +73,9 @@ module _ (c : Cluster) (journal : Journal) (reading : Reading) where
             ∙ ap (λ (rs : List ResultLine). record { results = rs; stop = None }) (append-nil p.given))
 
         first : (o : Option (List ℕ)) → Some (raw_lines (reading.held ++ left)) ≡ option_map (λ rest. p.lines ++ raw_lines (t.lines.reading.held ++ rest)) o
-            → StandFirst p.lines (raw_lines (reading.held ++ left))
+            → IsFront p.lines (raw_lines (reading.held ++ left))
         first None e = cc
-        first (Some rest) e = record { others = raw_lines (t.lines.reading.held ++ rest); joined = cc }
+        first (Some rest) e = record { more = raw_lines (t.lines.reading.held ++ rest); joined = cc }
 
         all : (o : Option (List ℕ)) → t.course ≡ course.Ended → IfSome o (λ (rest : List ℕ). rest ≡ []) → Some results ≡ option_map (λ rest. results_first p.given (coming_to t rest)) o
             → o ≡ after → AskedForAll c journal reading left after (record { results = p.given; stop = None })
@@ -101,7 +101,7 @@ module _ (c : Cluster) (journal : Journal) (reading : Reading) where
     nothing_asked : after ≡ Some left → AskedFor c journal reading left after (record { results = []; stop = None })
     nothing_asked e = record {
       lines = [];
-      first = record { others = raw_lines (reading.held ++ left); joined = refl };
+      first = record { more = raw_lines (reading.held ++ left); joined = refl };
       said = refl;
       ends = inl refl;
       bytes = [];
@@ -335,8 +335,8 @@ module _ (c : Cluster) (journal : Journal) (reading : Reading) where
     -- what is written where a line stops the reading
     stopped_by : (left : List ℕ) (after old middle new : Option (List ℕ)) (printed : List RunLine) → Adds old (run_lines_text c printed) middle → (given : List ResultLine) (w : LineStop)
         → results_behind c journal reading left ≡ record { results = given; stop = Some w } → (results_behind c journal reading left).stop ≡ Some w
-        → AsksForMore c journal (results_behind c journal reading left) printed → (lines : List (List (List ℕ))) → StandFirst lines (raw_lines (reading.held ++ left))
-        → said_by c start.lines lines ≡ record { results = given; stop = Some w } → EndsInOne c start.lines lines → (bytes : List ℕ) → Some left ≡ option_map (λ (x : List ℕ). bytes ++ x) after
+        → AsksForMore c journal (results_behind c journal reading left) printed → (lines : List (List (List ℕ))) → IsFront lines (raw_lines (reading.held ++ left))
+        → said_by c start.lines lines ≡ record { results = given; stop = Some w } → NoneOrLastSays c start.lines lines → (bytes : List ℕ) → Some left ≡ option_map (λ (x : List ℕ). bytes ++ x) after
         → AreNear start.lines lines bytes → (how : LiveEnd) → EndsLines (Some w) how middle new → is_last w ≡ true → Reaches c journal reading left after old new how
     stopped_by left after old middle new printed added given (why.Refused n cause) all stop more lines first said ends bytes taken near end.Refused put last = record {
       text = run_lines_text c printed ++ line_refusal_text n cause;
@@ -424,7 +424,7 @@ module _ (c : Cluster) (journal : Journal) (reading : Reading) where
         record {
           call = in_run (record {
             printed = w.lines;
-            call = w.call;
+            written = w.call;
             closing = w.closing;
             journal_now = j.events;
             given = g.given;

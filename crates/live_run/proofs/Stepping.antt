@@ -12,7 +12,8 @@ use Rattle.crm_lex.specs.declared.fault.LexCause.TheVariants.{LineTooLong}
 use Rattle.crm_lex.proofs.PhysicalLines.{concat-lines}
 use Rattle.live_run.specs.Coming.{Coming, Lines, coming, no_more, said_first}
 use Rattle.live_run.specs.Inner.ComingSteps.{said_came}
-use Rattle.live_run.specs.Followed.{AreNear, LastLineSays, HasRead, IsStoppedBy, StandFirst, bytes_of, count_said, results_first, said_by}
+use Rattle.live_run.specs.Followed.{AreNear, LastLineSays, HasRead, IsStoppedBy, bytes_of, count_said, results_first, said_by}
+use Rattle.run_safety.specs.Followed.{IsFront}
 use Rattle.live_run.specs.Inner.ReadSteps.{ReadUntil}
 use Rattle.live_run.specs.Saying.{line_says, place_behind_said, line_says_within, sized_says}
 use Rattle.live_run.specs.declared.came.Came.TheVariants as came
@@ -110,13 +111,13 @@ module _ (c : Cluster) (at : Place) (old new : Reading) (before after : Option (
   }
     where
       first : (left : Option (List ℕ)) → option_map (λ rest. raw_lines (old.held ++ rest)) left ≡ option_map (λ rest. lines ++ raw_lines (new.held ++ rest)) after
-          → IfSome left (λ rest. StandFirst lines (raw_lines (old.held ++ rest)))
+          → IfSome left (λ rest. IsFront lines (raw_lines (old.held ++ rest)))
       first None e = tt
       first (Some rest) e = by after e
         where
-          by : (left : Option (List ℕ)) → Some (raw_lines (old.held ++ rest)) ≡ option_map (λ t. lines ++ raw_lines (new.held ++ t)) left → StandFirst lines (raw_lines (old.held ++ rest))
+          by : (left : Option (List ℕ)) → Some (raw_lines (old.held ++ rest)) ≡ option_map (λ t. lines ++ raw_lines (new.held ++ t)) left → IsFront lines (raw_lines (old.held ++ rest))
           by None f = cc
-          by (Some left) f = record { others = raw_lines (new.held ++ left); joined = cc }
+          by (Some left) f = record { more = raw_lines (new.held ++ left); joined = cc }
 
   pub line_until : ReadUntil c (said_came at.line (line_says c at new.raw)) (lines_at at old) (behind (line_says c at new.raw)) before after
   line_until = by_said (line_says c at new.raw) refl
@@ -225,10 +226,10 @@ module _ (c : Cluster) (at : Place) (old new : Reading) (before after : Option (
       }
     where
       stands : (left : Option (List ℕ)) → IfSome left (λ (t : List ℕ). t ≡ a.bytes ++ rest) → (more raw : List ℕ)
-          → raw_lines ((old.held ++ a.bytes) ++ rest) ≡ physical_lines raw ∷ raw_lines more → IfSome left (λ (t : List ℕ). StandFirst (physical_lines raw ∷ []) (raw_lines (old.held ++ t)))
+          → raw_lines ((old.held ++ a.bytes) ++ rest) ≡ physical_lines raw ∷ raw_lines more → IfSome left (λ (t : List ℕ). IsFront (physical_lines raw ∷ []) (raw_lines (old.held ++ t)))
       stands None h more raw cut = tt
       stands (Some left) h more raw cut = record {
-        others = raw_lines more;
+        more = raw_lines more;
         joined = ap (λ (t : List ℕ). raw_lines (old.held ++ t)) h ∙ (ap raw_lines (sym (append_assoc old.held a.bytes rest)) ∙ cut);
       }
 

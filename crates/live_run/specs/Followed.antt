@@ -16,6 +16,7 @@ use Rattle.live_run.specs.declared.course.Course.{Course}
 use Rattle.live_run.specs.declared.course.Course.TheVariants as course
 use Rattle.live_run.specs.declared.line_stop.LineStop.{LineStop}
 use Rattle.live_run.specs.declared.line_stop.LineStop.TheVariants.{ReadFault}
+use Rattle.run_safety.specs.Followed.{IsFront}
 
 -- the bytes of some logical lines, each of which is given by its physical lines
 abbrev pub bytes_of : List (List (List ℕ)) → List ℕ
@@ -42,11 +43,6 @@ last_line line (result ∷ results) = last_line result.line results
 abbrev pub count_said : Coming → ℕ
 count_said coming = length coming.results + (if is_some coming.stop then 1 else 0)
 
--- these are the first of all
-pub record StandFirst {X : Type 0} (xs all : List X) : Type 0 where
-  pub others : List X
-  pub joined : all ≡ xs ++ others
-
 -- some logical lines have a last one, and it says something: without it they say less
 pub record LastLineSays (c : Cluster) (from : Lines) (lines : List (List (List ℕ))) : Type 0 where
   pub front : List (List (List ℕ))
@@ -55,8 +51,8 @@ pub record LastLineSays (c : Cluster) (from : Lines) (lines : List (List (List �
   pub fewer : count_said (said_by c from front) < count_said (said_by c from lines)
 
 -- there are none, or the last of them says something
-abbrev pub EndsInOne : Cluster → Lines → List (List (List ℕ)) → Type 0
-EndsInOne c from lines = (lines ≡ []) ⊎ LastLineSays c from lines
+abbrev pub NoneOrLastSays : Cluster → Lines → List (List (List ℕ)) → Type 0
+NoneOrLastSays c from lines = (lines ≡ []) ⊎ LastLineSays c from lines
 
 -- these logical lines were read and answered so, and the bytes that were taken for them are theirs and those that are held now. Each byte of theirs leaves
 -- less room
@@ -80,7 +76,7 @@ pub record AllIsRead (new : Lines) (after : Option (List ℕ)) : Type 0 where
 -- the last of these lines is the first that isn't an answer: it is refused, or goes past the limit
 pub record IsStoppedBy (c : Cluster) (old : Lines) (before after : Option (List ℕ)) (given : List ResultLine) (why : LineStop) : Type 0 where
   pub lines : List (List (List ℕ))
-  pub first : IfSome before (λ left. StandFirst lines (raw_lines (old.reading.held ++ left)))
+  pub first : IfSome before (λ left. IsFront lines (raw_lines (old.reading.held ++ left)))
   pub said : said_by c old lines ≡ record { results = given; stop = Some why }
   pub ends : LastLineSays c old lines
   pub bytes : List ℕ
@@ -89,7 +85,7 @@ pub record IsStoppedBy (c : Cluster) (old : Lines) (before after : Option (List 
 
 -- it goes on reading behind a line that says something, or all is read
 abbrev pub RestsBehind : SourceState → SourceState → Option (List ℕ) → List (List (List ℕ)) → List ℕ → Course → Type 0
-RestsBehind old new after lines bytes course.Reading = EndsInOne old.cluster old.lines lines × AreNear old.lines lines bytes
+RestsBehind old new after lines bytes course.Reading = NoneOrLastSays old.cluster old.lines lines × AreNear old.lines lines bytes
 RestsBehind old new after lines bytes course.Ended = AllIsRead new.lines after
 RestsBehind old new after lines bytes (course.Stopped why times) = ⊥
 

@@ -13,7 +13,7 @@ use Rattle.graph_exec.specs.declared.transition.outcomes.Next.TheVariants as nex
 use Rattle.input_reading.specs.declared.results.result_lines.ResultLine.{ResultLine}
 use Rattle.live_run.specs.Coming.{Coming}
 use Rattle.live_run.specs.Courses.{SourceState, has_course_ended, is_reading, coming_to}
-use Rattle.live_run.specs.Followed.{EndsInOne, SourceFollows, HasAnswered, HasBroken, HasQuestionFailed, HasCounted, HasFollowed, HasRead, HasSaid, HasStopped, IsStoppedBy, RestsBehind, View, answers, by_line, by_source, last_line, results_first, stays}
+use Rattle.live_run.specs.Followed.{NoneOrLastSays, SourceFollows, HasAnswered, HasBroken, HasQuestionFailed, HasCounted, HasFollowed, HasRead, HasSaid, HasStopped, IsStoppedBy, RestsBehind, View, answers, by_line, by_source, last_line, results_first, stays}
 use Rattle.live_run.specs.Writing.{HasFailedAt, HasPut, HasWrittenLines, WritesLines}
 use Rattle.live_run.specs.declared.course.Course.{Course}
 use Rattle.live_run.specs.declared.course.Course.TheVariants as course
@@ -61,7 +61,7 @@ module _ (a b d : SourceState) (x y z : Option (List ℕ)) (p : HasAnswered a b 
       by : (k : Course) → RestsBehind b d z q.lines q.bytes k → RestsBehind a d z (p.lines ++ q.lines) (p.bytes ++ q.bytes) k
       by course.Reading r = (
         ends_then a.cluster a.lines b.lines x y p.lines p.given p.bytes p.read q.lines rested.0
-            (subst (λ (c : Cluster). EndsInOne c b.lines q.lines) p.cluster_stays r.0),
+            (subst (λ (c : Cluster). NoneOrLastSays c b.lines q.lines) p.cluster_stays r.0),
         near_then a.cluster a.lines b.lines x y p.lines p.given p.bytes p.read q.lines q.bytes rested.1 r.1,
       )
       by course.Ended r = r

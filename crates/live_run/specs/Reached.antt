@@ -15,11 +15,11 @@ use Rattle.cluster_types.specs.Texts.{run_line}
 use Rattle.crm_lex.specs.RawLines.{raw_lines}
 use Rattle.live_run.specs.Coming.{Coming, Lines, coming_of}
 use Rattle.live_run.specs.Courses.{answers_to_come, starting}
-use Rattle.live_run.specs.Followed.{AreNear, EndsInOne, StandFirst, bytes_of, said_by}
+use Rattle.live_run.specs.Followed.{AreNear, NoneOrLastSays, bytes_of, said_by}
 use Rattle.live_run.specs.declared.line_stop.LineCause.{LineCause}
 use Rattle.live_run.specs.declared.line_stop.LineStop.TheVariants as why
 use Rattle.input_reading.specs.declared.results.result_lines.ResultLine.{ResultLine}
-use Rattle.run_safety.specs.Followed.{EndsBetween}
+use Rattle.run_safety.specs.Followed.{EndsBetween, IsFront}
 use Rattle.live_run.specs.Writing.{line_refusal_text}
 use Rattle.live_run.specs.Ends.{AsksForMore, EndGets, CutRunGives, run_lines_text}
 use Rattle.live_run.specs.declared.live_end.LiveEnd.{LiveEnd}
@@ -55,9 +55,9 @@ module _ (c : Cluster) (journal : Journal) (reading : Reading) (left : List ℕ)
   -- the lines that say this were asked for, and no more: of what lies behind the last of them only what came with its end was taken, fewer than 4,096 bytes
   pub record AskedFor (asked : Coming) : Type 0 where
     pub lines : List (List (List ℕ))
-    pub first : StandFirst lines (raw_lines (reading.held ++ left))
+    pub first : IsFront lines (raw_lines (reading.held ++ left))
     pub said : said_by c (first_result_place c journal reading) lines ≡ asked
-    pub ends : EndsInOne c (first_result_place c journal reading) lines
+    pub ends : NoneOrLastSays c (first_result_place c journal reading) lines
     pub bytes : List ℕ
     pub taken : TakesBytes (Some left) bytes after
     pub near : AreNear (first_result_place c journal reading) lines bytes
@@ -72,13 +72,13 @@ module _ (c : Cluster) (journal : Journal) (reading : Reading) (left : List ℕ)
   -- behind them, and this call doesn't write it. The run has taken these answers by then
   pub record CallInRun : Type 0 where
     pub printed : List RunLine
-    pub call : List RunLine
+    pub written : List RunLine
     pub closing : List RunLine
     pub journal_now : List Event
     pub given : List ResultLine
     pub behind : List ResultLine
     pub split : results.results ≡ given ++ behind
-    pub run : IsStoppedRun c journal.promotions (is_none results.stop) journal.events (Some (answers_to_come results)) printed call closing journal_now
+    pub run : IsStoppedRun c journal.promotions (is_none results.stop) journal.events (Some (answers_to_come results)) printed written closing journal_now
         (Some (map (λ (r : ResultLine). r.answer) behind))
 
   -- the call that writes `unexpected LINE` of the answer behind these, which doesn't apply
@@ -116,7 +116,7 @@ module _ (c : Cluster) (journal : Journal) (reading : Reading) (left : List ℕ)
 
   -- what it writes
   abbrev pub text_of_call : WriterCall → List ℕ
-  text_of_call (in_run call) = run_lines_text c call.call
+  text_of_call (in_run call) = run_lines_text c call.written
   text_of_call (of_unexpected call) = run_line c (line.Unexpected call.result.line)
   text_of_call (of_refusal call) = line_refusal_text call.line call.cause
 

@@ -1,8 +1,10 @@
 -- What an auditor has found, by how the run of the answers ended.
 use Rattle.std.proofs.Common.{arith, ◌≡◌, ◌≢◌, ◌⊎◌, inl, inr, ◌<◌, ◌≤◌, nat_lt, ℕ, zero, suc, Bool, true, false, List, [], ◌∷◌, ◌++◌, length, length-append, take, append_assoc, refl, sym, ap, subst, ◌∙◌}
 use Rattle.std.specs.Prelude.{Option, Some, slice_get}
+use Rattle.std.specs.List.{flat_map}
 use Rattle.std.proofs.lemmas.Bool.{cases_lt}
 use Rattle.std.proofs.lemmas.List.{length-map, length-take-le, take_all}
+use Rattle.std.proofs.lemmas.List.Folds.{flat_map-map}
 use Rattle.std.proofs.Math.Seq.{take-append_seam}
 use Rattle.cluster_types.specs.declared.cluster.Cluster.{Cluster}
 use Rattle.cluster_types.specs.declared.journal.Answer.{Answer}
@@ -11,6 +13,7 @@ use Rattle.cluster_types.specs.declared.run.RunLine.{RunLine}
 use Rattle.cluster_types.specs.Runs.{due, Runs, IsCutRun, IsWholeRun}
 use Rattle.graph_exec.specs.Replays.{IsStopped, IsTold, setting, sight}
 use Rattle.graph_exec.specs.RunEnds.{unexpected, with_all}
+use Rattle.graph_exec.specs.Scripts.{ScriptOf}
 use Rattle.input_reading.specs.declared.run.text.RunTextLine.{RunTextLine}
 use Rattle.run_safety.proofs.SoFar.{runs_more}
 use Rattle.sim_core.specs.declared.auditor.Auditor.{Auditor}
@@ -19,12 +22,19 @@ use Rattle.sim_core.specs.declared.verdict.Clause.TheVariants as clause
 use Rattle.sim_core.specs.declared.verdict.Verdict.{Verdict}
 use Rattle.sim_core.specs.declared.verdict.Verdict.TheVariants.{Yes, No}
 use Rattle.sim_core.specs.Inner.Auditors.{PassesLines, StopsAtLine, audited_lines}
-use Rattle.sim_core.specs.Lawful.{IsWholeRunOfLines, Judges, answers_of_lines, clause_of, line_number_at, other, said, undue}
+use Rattle.sim_core.specs.Lawful.{IsWholeRunOfLines, Judges, answer_in, answers_of_lines, clause_of, line_number_at, other, said, undue}
 
 -- what stands behind some elements
 behind_at : {X : Type 0} (xs ys : List X) (y : X) → slice_get (xs ++ y ∷ ys) (length xs) ≡ Some y
 behind_at [] ys y = refl
 behind_at (x ∷ xs) ys y = behind_at xs ys y
+
+-- a source of the answers among some lines has those of what the lines say
+pub answers_said : (script : ScriptOf) (answers : List Answer) (slice lines : List RunTextLine) → script ≡ record { left = answers; taken = 0 }
+    → answers ≡ flat_map (λ (l : RunTextLine). answer_in l.what) slice → slice ≡ lines → script.left ≡ answers_of_lines (said lines)
+answers_said script answers slice lines made among same =
+    ap (λ (s : ScriptOf). s.left) made ∙ among ∙ ap (λ (ls : List RunTextLine). flat_map (λ (l : RunTextLine). answer_in l.what) ls) same
+    ∙ sym (flat_map-map answer_in (λ (l : RunTextLine). l.what) lines)
 
 module _ (c : Cluster) (journal : Journal) (lines : List RunTextLine) (after : ℕ) (start now : Auditor) (first : start.place ≡ 0) (written : start.lines.now ≡ lines) where
   -- the lines that were told

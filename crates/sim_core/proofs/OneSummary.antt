@@ -1,7 +1,6 @@
 -- A number has one summary.
-use Rattle.std.proofs.Common.{arith, ◌≡◌, ◌-◌, ℕ, true, Some, List, [], ◌∷◌, ◌++◌, length, slice_get, filter, codes, refl, sym, ap, ◌∙◌}
+use Rattle.std.proofs.Common.{arith, ◌≡◌, ℕ, true, Some, List, [], ◌∷◌, ◌++◌, length, filter, codes, sym, ap, ◌∙◌}
 use Rattle.std.specs.List.{AllByRecursion}
-use Rattle.std.specs.Option.{option_map_or}
 use Rattle.cluster_types.specs.declared.cluster.Cluster.{Cluster}
 use Rattle.cluster_types.specs.declared.journal.Answer.{Answer}
 use Rattle.cluster_types.specs.declared.journal.Event.{Event}
@@ -9,7 +8,6 @@ use Rattle.cluster_types.specs.declared.journal.Journal.{Journal}
 use Rattle.cluster_types.specs.declared.journal.Promotion.{Promotion}
 use Rattle.cluster_types.specs.declared.run.Passed.{Passed}
 use Rattle.cluster_types.specs.declared.run.Run.{Run}
-use Rattle.cluster_types.specs.Tables.{is_somewhere}
 use Rattle.cluster_types.specs.Texts.{PassedFits, run_lines}
 use Rattle.graph_exec.specs.Kept.{IsPassedOfPlan}
 use Rattle.input_reading.specs.declared.input.reading.Input.{Input}
@@ -17,22 +15,10 @@ use Rattle.run_safety.proofs.OneEnd.{cut_one, whole_one, whole_or_cut}
 use Rattle.run_safety.proofs.PlansAreOne.{plans_one}
 use Rattle.sim_core.specs.Generated.{IsRunOf, IsSummaryText, answers_of, cut, to_its_end}
 use Rattle.sim_core.specs.Summary.{case_lines, count_line, is_begin, is_good_end, last_targets}
-use Rattle.sim_core.proofs.Tallied.{Tally, tally, tally_all, targets_at_last}
+use Rattle.sim_core.proofs.Tallied.{Tally, cells_at_last, tally, tally_all}
 
-abbrev cells_with_targets : Passed → ℕ
-cells_with_targets p = length (filter is_somewhere p.table.targets)
-
--- the last of some transitions is that at their last place
-last_is : (x y : ℕ) (p : Passed) (ps : List Passed) → targets_at_last x (p ∷ ps) ≡ option_map_or cells_with_targets (slice_get (p ∷ ps) (length ps)) y
-last_is x y p [] = refl
-last_is x y p (q ∷ ps) = last_is (cells_with_targets p) y q ps
-
-at_last : (ps : List Passed) → targets_at_last 0 ps ≡ last_targets ps
-at_last [] = refl
-at_last (p ∷ ps) =
-    last_is 0 0 p ps ∙ ap (λ i. option_map_or cells_with_targets (slice_get (p ∷ ps) i) 0) (let e : length ps ≡ length (p ∷ ps) - 1 = omega arith in e)
-
-all_fit : (c : Cluster) (promotions : List Promotion) (es : List Event) (ps : List Passed) → AllByRecursion (IsPassedOfPlan c promotions es) ps → AllByRecursion (PassedFits c es) ps
+-- the transitions of a run that is kept fit
+pub all_fit : (c : Cluster) (promotions : List Promotion) (es : List Event) (ps : List Passed) → AllByRecursion (IsPassedOfPlan c promotions es) ps → AllByRecursion (PassedFits c es) ps
 all_fit c promotions es [] h = tt
 all_fit c promotions es (p ∷ ps) h = (h.0.fits, all_fit c promotions es ps h.1)
 
@@ -61,12 +47,15 @@ one_summary number whole text other a b =
     let promotions = whole.head.journal.promotions in
     let same = one_run c whole.head.journal (answers_of whole.results) a.run b.run a.is b.is in
     let none : Tally = record { transitions = 0; targets = 0 } in
-    let mine = tally_all c a.run.journal.events none 1 a.run.passed (all_fit c promotions a.run.journal.events a.run.passed a.plans) in
-    let its = tally_all c b.run.journal.events none 1 b.run.passed (all_fit c promotions b.run.journal.events b.run.passed b.plans) in
+    let my_fit = all_fit c promotions a.run.journal.events a.run.passed a.plans in
+    let its_fit = all_fit c promotions b.run.journal.events b.run.passed b.plans in
+    let mine = tally_all c a.run.journal.events none 1 a.run.passed my_fit in
+    let its = tally_all c b.run.journal.events none 1 b.run.passed its_fit in
     let tallies = sym mine ∙ (ap (tally none) same.0 ∙ its) in
     let transitions : length a.run.passed ≡ length b.run.passed = (let e = ap (λ (t : Tally). t.transitions) tallies in omega (arith, e)) in
-    let targets : last_targets a.run.passed ≡ last_targets b.run.passed = sym (at_last a.run.passed) ∙ (ap (λ (t : Tally). t.targets) tallies ∙ at_last b.run.passed) in
+    let targets : last_targets c a.run.passed ≡ last_targets c b.run.passed
+    = sym (cells_at_last c a.run.journal.events a.run.passed my_fit) ∙ (ap (λ (t : Tally). t.targets) tallies ∙ cells_at_last c b.run.journal.events b.run.passed its_fit) in
     a.printed
-    ∙ (ap (λ n. counted c number n a.run.journal.events (last_targets a.run.passed)) transitions
-    ∙ (ap (λ es. counted c number (length b.run.passed) es (last_targets a.run.passed)) same.1
+    ∙ (ap (λ n. counted c number n a.run.journal.events (last_targets c a.run.passed)) transitions
+    ∙ (ap (λ es. counted c number (length b.run.passed) es (last_targets c a.run.passed)) same.1
     ∙ (ap (counted c number (length b.run.passed) b.run.journal.events) targets ∙ sym b.printed)))

@@ -1,9 +1,10 @@
 -- What the summary of a run counts is said by its lines: how many transitions there are, and how many cells have a target in the last.
-use Rattle.std.proofs.Common.{arith, ◌≡◌, ◌<◌, ◌≤◌, ◌+◌, ◌*◌, ℕ, zero, suc, Bool, Option, Some, None, List, [], ◌∷◌, ◌++◌, length, slice_get, filter, refl, sym, ap, ◌∙◌}
-use Rattle.std.specs.Prelude.{count_by, cond, unwrap_or}
+use Rattle.std.proofs.Common.{arith, ◌≡◌, ◌<◌, ◌≤◌, ◌+◌, ◌*◌, ◌-◌, ℕ, zero, suc, Bool, Option, Some, None, List, [], ◌∷◌, ◌++◌, length, slice_get, filter, refl, sym, ap, subst, ◌∙◌}
+use Rattle.std.specs.Prelude.{count_by, cond, sum_by, unwrap_or}
 use Rattle.std.specs.List.{AllByRecursion, flat_map, range_with_len}
+use Rattle.std.specs.Option.{option_map_or}
 use Rattle.std.proofs.lemmas.Bool.{lt-ltb}
-use Rattle.std.proofs.lemmas.List.Sums.{length-filter}
+use Rattle.std.proofs.lemmas.List.Sums.{length-filter, sum_by-cons}
 use Rattle.lemmas.proofs.Counts.{count-is}
 use Rattle.lemmas.proofs.Members.{all_append}
 use Rattle.cluster_types.specs.declared.cluster.Cluster.{Cluster}
@@ -25,6 +26,7 @@ use Rattle.cluster_types.specs.declared.run.PassedEnd.TheVariants.{Complete, Abo
 use Rattle.cluster_types.specs.declared.run.RunLine.{RunLine}
 use Rattle.cluster_types.specs.declared.run.RunLine.TheVariants as line
 use Rattle.cluster_types.specs.Tables.{is_somewhere, targets_of}
+use Rattle.sim_core.specs.Summary.{cells_with_targets, last_targets}
 use Rattle.cluster_types.specs.Texts.{PassedFits, all_passed_lines, begin_of, between, end_lines, event_lines, goal_line, lacking_lines, leaf_lines, passed_lines, pin_lines, target_lines}
 
 -- how many transitions some lines begin, and how many targets stand behind the last of these beginnings
@@ -134,6 +136,48 @@ module _ (c : Cluster) where
         ∙ (ap (λ z. with_targets t (cond z 1 0 + passing (has_target table.targets) (r * table.nodes + (from + 1)) n)) here
         ∙ ap (λ z. with_targets t (cond (has_target table.targets (r * table.nodes + from)) 1 0 + passing (has_target table.targets) z n))
         (let e : r * table.nodes + (from + 1) ≡ r * table.nodes + from + 1 = omega arith in e)))))
+
+    count_row : (r from n : ℕ) → from + n ≤ table.nodes
+        → count_by (λ m. is_somewhere (targets_of table r m)) (range_with_len from n) ≡ passing (has_target table.targets) (r * table.nodes + from) n
+    count_row r from zero low = refl
+    count_row r from (suc n) low =
+        let p = has_target table.targets in
+        let has : ℕ → Bool = λ m. is_somewhere (targets_of table r m) in
+        let here : has from ≡ p (r * table.nodes + from) = ap is_somewhere (cell_is r from (omega (arith, low))) in
+        let counted = count-is has from (range_with_len (from + 1) n) (p (r * table.nodes + from)) here in
+        let rest = count_row r (from + 1) n (omega (arith, low)) in
+        let next : passing p (r * table.nodes + (from + 1)) n ≡ passing p (r * table.nodes + from + 1) n
+        = ap (λ z. passing p z n) (let e : r * table.nodes + (from + 1) ≡ r * table.nodes + from + 1 = omega arith in e) in
+        omega (arith, counted, rest, next)
+
+    abbrev on_row : ℕ → ℕ
+    on_row r = count_by (λ n. is_somewhere (targets_of table r n)) (range_with_len 0 table.nodes)
+
+    count_rows : (from n : ℕ) → sum_by on_row (range_with_len from n) ≡ passing (has_target table.targets) (from * table.nodes) (n * table.nodes)
+    count_rows from zero = ap (passing (has_target table.targets) (from * table.nodes)) (let e : 0 ≡ 0 * table.nodes = grind arith in e)
+    count_rows from (suc n) =
+        let width = table.nodes in
+        let p = has_target table.targets in
+        let below : (from + 1) * width ≡ from * width + width = grind arith in
+        let all : suc n * width ≡ width + n * width = grind arith in
+        let row : on_row from ≡ passing p (from * width) width
+        = count_row from 0 width (omega arith) ∙ ap (λ z. passing p z width) (let e : from * width + 0 ≡ from * width = omega arith in e) in
+        let rest : sum_by on_row (range_with_len (from + 1) n) ≡ passing p (from * width + width) (n * width)
+        = count_rows (from + 1) n ∙ ap (λ z. passing p z (n * width)) below in
+        let both = passing_more p (from * width) width (n * width) in
+        let sum : sum_by on_row (range_with_len from (suc n)) ≡ on_row from + sum_by on_row (range_with_len (from + 1) n) = sum_by-cons on_row from (range_with_len (from + 1) n) in
+        let whole : passing p (from * width) (suc n * width) ≡ passing p (from * width) (width + n * width) = ap (passing p (from * width)) all in
+        omega (arith, row, rest, both, sum, whole)
+
+    -- a table that fits has as many targets as cells of the cluster have one
+    pub cells_are : length table.targets ≡ length c.leaves * length c.nodes → cells_with_targets c (targets_of table) ≡ length (filter is_somewhere table.targets)
+    cells_are size =
+        let p = has_target table.targets in
+        let all : length c.leaves * table.nodes ≡ length table.targets = ap (λ z. length c.leaves * z) nodes ∙ sym size in
+        ap (λ z. sum_by (λ r. count_by (λ n. is_somewhere (targets_of table r n)) (range_with_len 0 z)) (range_with_len 0 (length c.leaves))) (sym nodes)
+        ∙ (count_rows 0 (length c.leaves)
+        ∙ (ap (λ z. passing p z (length c.leaves * table.nodes)) (let e : 0 * table.nodes ≡ 0 = grind arith in e)
+        ∙ (ap (passing p 0) all ∙ (all_cells table.targets ∙ sym (length-filter is_somewhere table.targets)))))
 
     module _ (pins : List (Option Pin)) (reasons : List (Option NoReason)) where
       pin_beside : (r : ℕ) (pin : Option Pin) → AllByRecursion IsBeside (pin_lines c r pin)
@@ -273,3 +317,31 @@ module _ (c : Cluster) (es : List Event) where
       ∙ (ap (λ z. tally z rest) (tally-append t own gap ∙ (beside (tally t own) gap (events_beside (between p.ends_at (begin_of c es ps) es)) ∙ tally_one t k p fit.0))
       ∙ (tally_all now (k + 1) ps fit.1
       ∙ ap (λ z. record { transitions = z; targets = targets_at_last now.targets ps }) (let e : t.transitions + 1 + length ps ≡ t.transitions + suc (length ps) = omega arith in e)))
+
+-- the last of some transitions that fit fits
+pub last_fits : (c : Cluster) (es : List Event) (ps : List Passed) (p : Passed) → AllByRecursion (PassedFits c es) ps → slice_get ps (length ps - 1) ≡ Some p
+    → PassedFits c es p
+last_fits c es [] p fit is = absurd (let f : ⊥ = cc in f)
+last_fits c es (q ∷ []) p fit is = let same : q ≡ p = cc in subst (PassedFits c es) same fit.0
+last_fits c es (q ∷ r ∷ ps) p fit is =
+    last_fits c es (r ∷ ps) p fit.1 (ap (slice_get (q ∷ r ∷ ps)) (let e : suc (length (r ∷ ps) - 1) ≡ length (q ∷ r ∷ ps) - 1 = omega arith in e) ∙ is)
+
+abbrev kept_targets : Passed → ℕ
+kept_targets p = length (filter is_somewhere p.table.targets)
+
+-- the last of some transitions is that at their last place
+last_is : (x y : ℕ) (p : Passed) (ps : List Passed) → targets_at_last x (p ∷ ps) ≡ option_map_or kept_targets (slice_get (p ∷ ps) (length ps)) y
+last_is x y p [] = refl
+last_is x y p (q ∷ ps) = last_is (kept_targets p) y q ps
+
+at_last : (ps : List Passed) → targets_at_last 0 ps ≡ option_map_or kept_targets (slice_get ps (length ps - 1)) 0
+at_last [] = refl
+at_last (p ∷ ps) =
+    last_is 0 0 p ps ∙ ap (λ i. option_map_or kept_targets (slice_get (p ∷ ps) i) 0) (let e : length ps ≡ length (p ∷ ps) - 1 = omega arith in e)
+
+pub cells_at_last : (c : Cluster) (es : List Event) (ps : List Passed) → AllByRecursion (PassedFits c es) ps → targets_at_last 0 ps ≡ last_targets c ps
+cells_at_last c es ps fit = at_last ps ∙ by (slice_get ps (length ps - 1)) refl where
+  by : (last : Option Passed) → slice_get ps (length ps - 1) ≡ last
+      → option_map_or kept_targets last 0 ≡ option_map_or (λ (p : Passed). cells_with_targets c (targets_of p.table)) last 0
+  by None e = refl
+  by (Some p) e = let fits = last_fits c es ps p fit e in sym (cells_are c p.table fits.nodes fits.cells)

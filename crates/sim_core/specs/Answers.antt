@@ -121,7 +121,7 @@ reads_some nothing = false
 reads_some whole = true
 reads_some live = true
 
--- a word may have this status with its text: some input gets it. Of a live word it isn't said which one does
+-- a word may have this status with its text: some input gets it. Of a live word nothing is asked here
 abbrev pub MayGiveStatus : Intake → (List ℕ → Status → List ℕ → Type 0) → Status → Type 0
 MayGiveStatus nothing Output status = SomeInput nothing Output status
 MayGiveStatus whole Output status = SomeInput whole Output status

@@ -1,5 +1,6 @@
 -- The summary of the run of a generated case (rule of this project).
-use Rattle.std.specs.Prelude.{ℕ, ◌-◌, Bool, true, false, List, ◌++◌, codes, decimal, filter, length, slice_get}
+use Rattle.std.specs.Prelude.{ℕ, ◌-◌, Bool, true, false, List, ◌++◌, codes, count_by, decimal, filter, length, slice_get, sum_by}
+use Rattle.std.specs.List.{range_with_len}
 use Rattle.std.specs.Option.{option_map_or}
 use Rattle.cases.specs.Case.{lost_node}
 use Rattle.cluster_types.specs.declared.cluster.Cluster.{Cluster}
@@ -8,7 +9,7 @@ use Rattle.cluster_types.specs.declared.journal.Event.TheVariants.{Begin, Ended}
 use Rattle.cluster_types.specs.declared.run.Passed.{Passed}
 use Rattle.cluster_types.specs.declared.run.Run.{Run}
 use Rattle.cluster_types.specs.Steps.{is_success}
-use Rattle.cluster_types.specs.Tables.{is_somewhere}
+use Rattle.cluster_types.specs.Tables.{Targets, is_somewhere, targets_of}
 
 -- an action begins
 abbrev pub is_begin : Event → Bool
@@ -20,9 +21,13 @@ abbrev pub is_good_end : Cluster → Event → Bool
 is_good_end c (Ended k a o moment) = is_success c a o
 is_good_end c _ = false
 
--- how many cells have a target in the last of some transitions
-abbrev pub last_targets : List Passed → ℕ
-last_targets all = option_map_or (λ (passed : Passed). length (filter is_somewhere passed.table.targets)) (slice_get all (length all - 1)) 0
+-- how many cells of the cluster have a target: of each leaf, on how many nodes it has one
+abbrev pub cells_with_targets : Cluster → Targets → ℕ
+cells_with_targets c table = sum_by (λ r. count_by (λ n. is_somewhere (table r n)) (range_with_len 0 (length c.nodes))) (range_with_len 0 (length c.leaves))
+
+-- the same in the last of some transitions
+abbrev pub last_targets : Cluster → List Passed → ℕ
+last_targets c all = option_map_or (λ (passed : Passed). cells_with_targets c (targets_of passed.table)) (slice_get all (length all - 1)) 0
 
 -- a word and a number
 abbrev pub count_line : List ℕ → ℕ → List ℕ
@@ -39,7 +44,7 @@ module _ (c : Cluster) where
   abbrev pub summary_lines : Run → List ℕ
   summary_lines run =
       count_line (codes "transitions") (length run.passed) ++ count_line (codes "begun") (length (filter is_begin run.journal.events))
-      ++ count_line (codes "succeeded") (length (filter (is_good_end c) run.journal.events)) ++ count_line (codes "targets") (last_targets run.passed)
+      ++ count_line (codes "succeeded") (length (filter (is_good_end c) run.journal.events)) ++ count_line (codes "targets") (last_targets c run.passed)
 
   abbrev pub summary_text : ℕ → Run → List ℕ
   summary_text number run = case_lines number ++ summary_lines run

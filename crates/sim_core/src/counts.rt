@@ -1,7 +1,11 @@
 //! What is counted of a run.
 
-ghost use Rattle.std.specs.Prelude.{◌≡◌, filter, length};
+ghost use Rattle.std.specs.Prelude.{◌≡◌, List, filter, length};
+ghost use Rattle.std.specs.List.{AllByRecursion};
+ghost use Rattle.cluster_types.specs.declared.cluster.Cluster.{Cluster as ClusterOf};
+ghost use Rattle.cluster_types.specs.declared.journal.Event.{Event as EventOf};
 ghost use Rattle.cluster_types.specs.Tables as tables;
+ghost use Rattle.cluster_types.specs.Texts.{PassedFits};
 ghost use Rattle.sim_core.specs.Summary as summary;
 
 use cluster_types::{Cluster, Event, Passed, Target};
@@ -66,7 +70,7 @@ fn count_placed(targets: &[Target]) -> usize
 
 /// How many cells have a target in the last of some transitions.
 pub(crate) fn last_targets(all: &[Passed]) -> usize
-    ensures { result ≡ summary.last_targets all.now }
+    ensures { (c : ClusterOf) (es : List EventOf) → AllByRecursion (PassedFits c es) all.now → result ≡ summary.last_targets c all.now }
 {
     match all.last() {
         Some(passed) => count_placed(passed.table.targets.as_slice()),

@@ -1,8 +1,10 @@
 //! The text of the summary.
 
 ghost use Rattle.std.specs.Prelude.{◌≡◌, ◌++◌, codes, decimal, IfOk, OnOk};
+ghost use Rattle.std.specs.List.{AllByRecursion};
 ghost use Rattle.std.specs.String.{string_bytes};
 ghost use Rattle.cases.specs.Case.{lost_node};
+ghost use Rattle.cluster_types.specs.Texts.{PassedFits};
 ghost use Rattle.sim_core.specs.Summary as summary;
 
 use crate::counts::{count_begun, count_succeeded, last_targets};
@@ -36,31 +38,39 @@ fn push_case(text: &mut String, cluster: &Cluster, number: u32) -> Result<(), Al
     push_count(text, "leaves", cluster.leaves.len())
 }
 
-/// Its run.
-fn push_run(text: &mut String, cluster: &Cluster, run: &Run) -> Result<(), AllocError>
+/// Its run, with so many cells that have a target at last.
+fn push_run(
+    text: &mut String,
+    cluster: &Cluster,
+    run: &Run,
+    targets: usize,
+) -> Result<(), AllocError>
+    requires { targets ≡ summary.last_targets cluster.now run.now.passed }
     ensures { OnOk result (string_bytes text.new ≡ string_bytes text.old ++ summary.summary_lines cluster.now run.now) }
 {
     let events = run.journal.events.as_slice();
     push_count(text, "transitions", run.passed.len())?;
     push_count(text, "begun", count_begun(events))?;
     push_count(text, "succeeded", count_succeeded(cluster, events))?;
-    push_count(text, "targets", last_targets(run.passed.as_slice()))
+    push_count(text, "targets", targets)
 }
 
 /// The summary of the run of the case of a number, with the cluster that the case says (rule of this project): the
 /// number, the node that is lost, how many nodes and leaves there are, how many transitions the run has, how many actions
-/// began in it, how many ended with a success, and how many cells have a target in its last transition. `NoMemory` comes
-/// when memory runs out, and is the only other answer.
+/// began in it, how many ended with a success, and how many cells have a target in its last transition. It asks for
+/// transitions that fit the cluster. `NoMemory` comes when memory runs out, and is the only other answer.
 pub fn summary_text(
     alloc: Global,
     cluster: &Cluster,
     number: u32,
     run: &Run,
 ) -> Result<Vec<u8>, NoMemory>
+    requires { AllByRecursion (PassedFits cluster.now run.now.journal.events) run.now.passed }
     ensures { IfOk result (λ text. text.items ≡ summary.summary_text cluster.now number run.now) }
 {
     let mut text = String::new(alloc);
     push_case(&mut text, cluster, number)?;
-    push_run(&mut text, cluster, run)?;
+    let targets = last_targets(run.passed.as_slice());
+    push_run(&mut text, cluster, run, targets)?;
     Ok(text.into_bytes())
 }

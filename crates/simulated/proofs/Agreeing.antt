@@ -89,7 +89,7 @@ silent_agrees k c es taken flight a none = record { ends = λ busy. absurd (let 
 
 module _ (k : WorldOf) (c : Cluster) (es : List Event) (taken : ℕ) (a : Agrees k c es taken) (new : WorldOf) (of : IsOfOne k new) where
   -- it goes on to a world that it lives
-  goes_to : (later : List Event) (more : ℕ) (w : World) → Lives c k.reality.number a.first later w → ShowsWorld new.reality w → more ≤ w.given → Agrees new c later more
+  goes_to : (later : List Event) (more : ℕ) (w : World) → Lives c k.reality.number a.first later w → ShowsWorld new.reality w → more ≤ w.faults → Agrees new c later more
   goes_to later more w lives shows few = record {
     of_cluster = of.same.cluster ∙ a.of_cluster;
     first = a.first;
@@ -172,7 +172,7 @@ module _ (k : WorldOf) (c : Cluster) (es : List Event) (taken : ℕ) (a : Agrees
           numbers (number, action)
           (place, slice_get_within flight place (number, action) found, get_or_from_slice_get flight place (number, action) (number, action) found)
 
-      few : (b : Bool) → taken + 0 ≤ (if b then a.world.given + 1 else a.world.given)
+      few : (b : Bool) → taken + 0 ≤ (if b then a.world.faults + 1 else a.world.faults)
       few true = let few = a.few in omega arith
       few false = let few = a.few in omega arith
 
@@ -183,6 +183,6 @@ module _ (k : WorldOf) (c : Cluster) (es : List Event) (taken : ℕ) (a : Agrees
             goes_to (es ++ added_by c es flight last) (taken + count_by is_from_outside (added_by c es flight last)) (after_end c now f action)
             (ends es a.world flight place f number action a.lives is (sym came_is ∙ e) found)
             (subst (λ d. ShowsWorld new.reality (after_end d now f action)) mid_cluster (ended now mid_shows))
-            (subst (λ n. taken + n ≤ (after_end c now f action).given) (sym (none_ended c es flight now place number action f from_one is found)) (few (is_fault f)));
+            (subst (λ n. taken + n ≤ (after_end c now f action).faults) (sym (none_ended c es flight now place number action f from_one is found)) (few (is_fault f)));
         refused = λ no. absurd (let yes = ends_apply c es now flight taken place number f action found in let g : ⊥ = cc in g);
       })

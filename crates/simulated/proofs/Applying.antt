@@ -63,8 +63,8 @@ none_second number first t events safe before after k a at = on (op_cell op.Star
     on None h = tt
     on (Some cell) h = λ w life. fewer t before w (always t.cluster number first (journal t before) w life) cell h
 
-module _ (c : Cluster) (number : ℕ) (es : List Event) (w : World) (flight : List (ℕ × Action)) (taken : ℕ) (within : IsWorldWithin c es w) (few : taken ≤ w.given) where
-  room : w.given < 16 → nat_lt taken 256 ≡ true
+module _ (c : Cluster) (number : ℕ) (es : List Event) (w : World) (flight : List (ℕ × Action)) (taken : ℕ) (within : IsWorldWithin c es w) (few : taken ≤ w.faults) where
+  room : w.faults < 16 → nat_lt taken 256 ≡ true
   room early = grind (arith, nat_tests)
 
   up_joined : (s : Option NodeSign) → is_node_up (standing_by c s) ≡ true → is_joined_sign s ≡ true

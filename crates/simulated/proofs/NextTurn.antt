@@ -20,7 +20,7 @@ by_tests zero one up off node f drawn =
 module _ (c : Cluster) (number : ℕ) (w : World) where
   -- a node that stands so, where a fault may be given yet
   pub record IsNodeSo (so : Bool) (node : ℕ) : Type 0 where
-    pub early : w.given < 16
+    pub early : w.faults < 16
     pub within : node < length c.nodes
     pub is_so : so ≡ true
 
@@ -55,13 +55,13 @@ module _ (c : Cluster) (number : ℕ) (w : World) where
   abbrev turn_where : Bool → ℕ → Turn
   turn_where may count = turn_at (happens_by c number w (if may then Some die else None) (w.drawn + 1)) count
 
-  early_by : nat_lt w.given 16 ≡ true → w.given < 16
+  early_by : nat_lt w.faults 16 ≡ true → w.faults < 16
   early_by t = grind (arith, nat_tests)
 
   pub leaving : (count node : ℕ) → turn_of c number w count ≡ turn.Leaves node → IsNodeSo (is_node_up (w.nodes node)) node
-  leaving count node e = on (nat_lt w.given 16) refl e
+  leaving count node e = on (nat_lt w.faults 16) refl e
     where
-      on : (may : Bool) → nat_lt w.given 16 ≡ may → turn_where may count ≡ turn.Leaves node → IsNodeSo (is_node_up (w.nodes node)) node
+      on : (may : Bool) → nat_lt w.faults 16 ≡ may → turn_where may count ≡ turn.Leaves node → IsNodeSo (is_node_up (w.nodes node)) node
       on false t i = absurd (let g : ⊥ = cc in g)
       on true t i =
           let d = left (die == 0) (die == 1) (nat_lt node_drawn (length c.nodes) && is_node_up (w.nodes node_drawn))
@@ -75,9 +75,9 @@ module _ (c : Cluster) (number : ℕ) (w : World) where
           }
 
   pub joining : (count node : ℕ) → turn_of c number w count ≡ turn.Joins node → IsNodeSo (is_node_off (w.nodes node)) node
-  joining count node e = on (nat_lt w.given 16) refl e
+  joining count node e = on (nat_lt w.faults 16) refl e
     where
-      on : (may : Bool) → nat_lt w.given 16 ≡ may → turn_where may count ≡ turn.Joins node → IsNodeSo (is_node_off (w.nodes node)) node
+      on : (may : Bool) → nat_lt w.faults 16 ≡ may → turn_where may count ≡ turn.Joins node → IsNodeSo (is_node_off (w.nodes node)) node
       on false t i = absurd (let g : ⊥ = cc in g)
       on true t i =
           let d = joined (die == 0) (die == 1) (nat_lt node_drawn (length c.nodes) && is_node_up (w.nodes node_drawn))
@@ -91,9 +91,9 @@ module _ (c : Cluster) (number : ℕ) (w : World) where
           }
 
   -- an action ends with a fault only where one may be given yet
-  pub ending : (count place : ℕ) (f : Fate) → turn_of c number w count ≡ turn.Ends place f → is_fault f ≡ true → w.given < 16
-  ending count place f e fault = on (nat_lt w.given 16) refl e
+  pub ending : (count place : ℕ) (f : Fate) → turn_of c number w count ≡ turn.Ends place f → is_fault f ≡ true → w.faults < 16
+  ending count place f e fault = on (nat_lt w.faults 16) refl e
     where
-      on : (may : Bool) → nat_lt w.given 16 ≡ may → turn_where may count ≡ turn.Ends place f → w.given < 16
+      on : (may : Bool) → nat_lt w.faults 16 ≡ may → turn_where may count ≡ turn.Ends place f → w.faults < 16
       on false t i = let same : fate.True ≡ f = cc in absurd (let g : ⊥ = cc in g)
       on true t i = early_by t

@@ -18,46 +18,46 @@ never_risen real.Rising e = let no = ap is_rising e in cc
 never_risen real.Started e = let no = ap is_rising e in cc
 never_risen real.Promoted e = let no = ap is_rising e in cc
 
-module _ (c : Cluster) (nodes : List Standing) (cells : List Real) (rising : Option (ℕ × ℕ)) (number state given : ℕ) (w : World)
-    (s : ShowsWorld (reality c nodes cells rising number state given) w) where
+module _ (c : Cluster) (nodes : List Standing) (cells : List Real) (rising : Option (ℕ × ℕ)) (number state faults : ℕ) (w : World)
+    (s : ShowsWorld (reality c nodes cells rising number state faults) w) where
   pub shows_begun : (new : List Real) (a : Action) → ((held : Cells) → Holds c cells held → Holds c new (begun c a held))
-      → ShowsWorld (reality c nodes new rising number state given) (after_begin c w a)
+      → ShowsWorld (reality c nodes new rising number state faults) (after_begin c w a)
   shows_begun new a held = record {
     nodes = s.nodes;
     cells = held w.cells s.cells;
     alone = λ r n l m e. s.alone r n l m (begun_rising c w.cells r n a e);
     state = s.state;
-    given = s.given;
+    faults = s.faults;
   }
 
   pub shows_calm : (new : List Real) → ((held : Cells) → Holds c cells held → IsAlone c rising held → Holds c new (λ r n. risen (held r n)))
-      → ShowsWorld (reality c nodes new None number state given) (calm w)
+      → ShowsWorld (reality c nodes new None number state faults) (calm w)
   shows_calm new held = record {
     nodes = s.nodes;
     cells = held w.cells s.cells s.alone;
     alone = λ r n l m e. absurd (never_risen (w.cells r n) e);
     state = s.state;
-    given = s.given;
+    faults = s.faults;
   }
 
   pub next_is : next_state state ≡ state_after number (w.drawn + 1)
   next_is = ap next_state s.state ∙ sym (state_more number w.drawn)
 
-  pub shows_drawn : (next : ℕ) → next ≡ next_state state → ShowsWorld (reality c nodes cells rising number next given) (with_draws w 1)
-  shows_drawn next is = record { nodes = s.nodes; cells = s.cells; alone = s.alone; state = is ∙ next_is; given = s.given }
+  pub shows_drawn : (next : ℕ) → next ≡ next_state state → ShowsWorld (reality c nodes cells rising number next faults) (with_draws w 1)
+  shows_drawn next is = record { nodes = s.nodes; cells = s.cells; alone = s.alone; state = is ∙ next_is; faults = s.faults }
 
   pub drawn_is : (next bound : ℕ) → next ≡ next_state state → taken_of next bound ≡ draw number (w.drawn + 1) bound
   drawn_is next bound is = ap (λ x. taken_of x bound) (is ∙ next_is)
 
   -- what is kept changes, and no number is drawn
   pub shows_changed : (new_nodes : List Standing) (new_cells : List Real) (up : Option (ℕ × ℕ)) (now : ℕ) (v : World) → HoldsNodes (length c.nodes) new_nodes v.nodes
-      → Holds c new_cells v.cells → IsAlone c up v.cells → v.drawn ≡ w.drawn → now ≡ v.given → ShowsWorld (reality c new_nodes new_cells up number state now) v
+      → Holds c new_cells v.cells → IsAlone c up v.cells → v.drawn ≡ w.drawn → now ≡ v.faults → ShowsWorld (reality c new_nodes new_cells up number state now) v
   shows_changed new_nodes new_cells up now v held_nodes held alone drawn same = record {
     nodes = held_nodes;
     cells = held;
     alone = alone;
     state = s.state ∙ ap (state_after number) (sym drawn);
-    given = same;
+    faults = same;
   }
 
   pub left_alone : (node : ℕ) → IsAlone c rising (if c.properties.fencing then w.cells else without_node node w.cells)
@@ -78,5 +78,5 @@ module _ (c : Cluster) (nodes : List Standing) (cells : List Real) (rising : Opt
 
 -- the same, by how many numbers were drawn
 pub redrawn : (k : RealityOf) (w : World) (drawn : ℕ) → ShowsWorld k w → drawn ≡ w.drawn
-    → ShowsWorld k (record { nodes = w.nodes; cells = w.cells; drawn = drawn; given = w.given })
-redrawn k w drawn s same = record { nodes = s.nodes; cells = s.cells; alone = s.alone; state = s.state ∙ ap (state_after k.number) (sym same); given = s.given }
+    → ShowsWorld k (record { nodes = w.nodes; cells = w.cells; drawn = drawn; faults = w.faults })
+redrawn k w drawn s same = record { nodes = s.nodes; cells = s.cells; alone = s.alone; state = s.state ∙ ap (state_after k.number) (sym same); faults = s.faults }

@@ -130,15 +130,15 @@ module _ (c : Cluster) (number : ℕ) (w : World) where
         (ap (λ h. drawn_by h (happening c number w).drawn) n.is ∙ ap (λ (x : ℕ). x + 1) n.drawn_is)
 
 -- a fault comes only early
-pub of_node_may : (count given : ℕ) (t : Turn) → IsOfNode t → given < 16 → MayCome count given t
-of_node_may count given (turn.Leaves node) is early = early
-of_node_may count given (turn.Joins node) is early = early
-of_node_may count given (turn.Ends place f) is early = absurd is
+pub of_node_may : (count faults : ℕ) (t : Turn) → IsOfNode t → faults < 16 → MayCome count faults t
+of_node_may count faults (turn.Leaves node) is early = early
+of_node_may count faults (turn.Joins node) is early = early
+of_node_may count faults (turn.Ends place f) is early = absurd is
 
-pub low_early : (given : ℕ) (d : Option ℕ) → IsForNode d → IfSome d (λ die. given < 16) → given < 16
-low_early given None low early = absurd low
-low_early given (Some die) low early = early
+pub low_early : (faults : ℕ) (d : Option ℕ) → IsForNode d → IfSome d (λ die. faults < 16) → faults < 16
+low_early faults None low early = absurd low
+low_early faults (Some die) low early = early
 
-pub ends_may : (count given : ℕ) (d : Option ℕ) (place : ℕ) (f : Fate) → f ≡ fate_by d → place < count → IfSome d (λ die. given < 16) → MayCome count given (turn.Ends place f)
-ends_may count given None place f is low early = (low, λ h. let no = rw is at h in absurd (let g : ⊥ = cc in g))
-ends_may count given (Some die) place f is low early = (low, λ h. early)
+pub ends_may : (count faults : ℕ) (d : Option ℕ) (place : ℕ) (f : Fate) → f ≡ fate_by d → place < count → IfSome d (λ die. faults < 16) → MayCome count faults (turn.Ends place f)
+ends_may count faults None place f is low early = (low, λ h. let no = rw is at h in absurd (let g : ⊥ = cc in g))
+ends_may count faults (Some die) place f is low early = (low, λ h. early)

@@ -97,7 +97,7 @@ module _ (c : Cluster) where
         → ((r n : ℕ) → is_cell c r n ≡ true → is_there (next.cells r n) ≡ true → (opens c r n e ≡ true) ⊎ ((is_there (w.cells r n) ≡ true) × (closes c r n e ≡ false)))
         → ((r n : ℕ) → is_cell c r n ≡ true → is_really_promoted (next.cells r n) ≡ true
         → ((is_promotable c r ≡ true) × (opens_promoted c r n e ≡ true)) ⊎ ((is_really_promoted (w.cells r n) ≡ true) × (closes_promoted c r n e ≡ false)))
-        → next.given ≤ 16 → IsWorldWithin c (es ++ e ∷ []) next
+        → next.faults ≤ 16 → IsWorldWithin c (es ++ e ∷ []) next
     within_more w next within nodes runs promoted few = record {
       stands = nodes;
       runs = λ r n cell h. runs_on r n (w.cells r n) (next.cells r n) (within.runs r n cell) (runs r n cell) h;
@@ -209,7 +209,7 @@ module _ (c : Cluster) where
       outcome_of fate.Undone = Code 1
       outcome_of fate.TimedOut = TimedOut
 
-      within_end : (f : Fate) → (is_fault f ≡ true → w.given < 16) → IsWorldWithin c (es ++ Ended k a (outcome_of f) m ∷ []) (after_end c w f a)
+      within_end : (f : Fate) → (is_fault f ≡ true → w.faults < 16) → IsWorldWithin c (es ++ Ended k a (outcome_of f) m ∷ []) (after_end c w f a)
       within_end fate.True early =
           within_more es (Ended k a (Code (true_code c a w.cells)) m) w (after_end c w fate.True a) within (true_stands a)
           (λ r n cell. running.true_stays c w.cells r n k m cell a) (λ r n cell. promoting.true_stays c w.cells r n k m cell a) within.few
@@ -241,7 +241,7 @@ module _ (c : Cluster) where
         rw same at on
 
     -- a node leaves
-    within_left : (es : List Event) (node : ℕ) → w.given < 16 → IsWorldWithin c es w → IsWorldWithin c (es ++ Lost node ∷ []) (after_leaving c w node)
+    within_left : (es : List Event) (node : ℕ) → w.faults < 16 → IsWorldWithin c es w → IsWorldWithin c (es ++ Lost node ∷ []) (after_leaving c w node)
     within_left es node early within =
         within_more es (Lost node) w (after_leaving c w node) within (λ n. stands n (node == n) refl)
         (λ r n cell h. runs r n c.properties.fencing (node == n) refl refl h) (λ r n cell h. promoted r n c.properties.fencing (node == n) refl refl h)
@@ -268,7 +268,7 @@ module _ (c : Cluster) where
         promoted r n false false f e h = inr (rw e at h, rw e refl)
 
     -- a node joins
-    within_joined : (es : List Event) (node : ℕ) → w.given < 16 → IsWorldWithin c es w → IsWorldWithin c (es ++ Up node ∷ []) (after_joining c w node)
+    within_joined : (es : List Event) (node : ℕ) → w.faults < 16 → IsWorldWithin c es w → IsWorldWithin c (es ++ Up node ∷ []) (after_joining c w node)
     within_joined es node early within =
         within_more es (Up node) w (after_joining c w node) within (λ n. stands n (node == n) refl)
         (λ r n cell h. runs r n (node == n) refl h) (λ r n cell h. promoted r n (node == n) refl h) (omega (arith, early))
@@ -308,7 +308,7 @@ module _ (c : Cluster) where
         → IsWorldWithin c (es ++ added_by c es flight (answer_by_fate c (turned c number w) f k a)) (after_end c (turned c number w) f a)
     within_ends es flight count place f k a within is e at = on f (ending c number w count place f e)
       where
-        on : (f : Fate) → (is_fault f ≡ true → w.given < 16)
+        on : (f : Fate) → (is_fault f ≡ true → w.faults < 16)
             → IsWorldWithin c (es ++ added_by c es flight (answer_by_fate c (turned c number w) f k a)) (after_end c (turned c number w) f a)
         on fate.True early =
             rw (one_end es flight place k a (Code (true_code c a (turned c number w).cells)) is at)

@@ -40,7 +40,7 @@ pub record IsWorldWithin (c : Cluster) (es : List Event) (w : World) : Type 0 wh
   pub stands : (n : ℕ) → w.nodes n ≡ standing_by c (last_sign n es)
   pub runs : (r n : ℕ) → is_cell c r n ≡ true → is_there (w.cells r n) ≡ true → may_be_running c r n es ≡ true
   pub promoted : (r n : ℕ) → is_cell c r n ≡ true → is_really_promoted (w.cells r n) ≡ true → may_be_promoted c r n es ≡ true
-  pub few : w.given ≤ most_faults
+  pub few : w.faults ≤ most_faults
 
 -- where a start of a leaf begins on a node, the leaf really runs on fewer other nodes than it has copies. Of a plain resource there is none
 abbrev pub ReallyAddsNoCopy : ℕ → List Event → Transition → List Event → CellOf → Type 0

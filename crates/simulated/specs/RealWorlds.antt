@@ -26,7 +26,7 @@ pub record World : Type 0 where
   pub nodes : ℕ → Standing
   pub cells : Cells
   pub drawn : ℕ
-  pub given : ℕ
+  pub faults : ℕ
 
 -- something is there: it runs, or comes up
 abbrev pub is_there : Real → Bool
@@ -80,7 +80,7 @@ first_world c es = record {
   nodes = λ n. standing_by c (last_sign n es);
   cells = first_real c es;
   drawn = 0;
-  given = 0;
+  faults = 0;
 }
 
 -- what comes up has come up
@@ -126,7 +126,7 @@ module _ (c : Cluster) where
   after_op Demote leaf before = demoted before
   after_op Monitor leaf before = before
 
-  -- an action begins: the target of a migration comes to run where its source does
+  -- the cells when an action has begun. Once a migration is sent, its leaf runs on the target too, if it is there on the source
   abbrev pub begun : Action → Cells → Cells
   begun (MigrateTo leaf source target) cells =
       if is_there (found_at c cells leaf source) then with_changed_cell leaf target (λ x. real.Started) cells else cells
@@ -135,7 +135,7 @@ module _ (c : Cluster) where
   begun (Operation op leaf node interval role) cells = cells
   begun (MigrateFrom leaf source target) cells = cells
 
-  -- it is done: what has migrated runs no more at the source
+  -- the cells when it is done. What was sent runs no more on its source, if it is there on the target
   abbrev pub done : Action → Cells → Cells
   done (Fence node) cells = without_node node cells
   done (Probe leaf node) cells = cells
@@ -144,7 +144,7 @@ module _ (c : Cluster) where
       if is_there (found_at c cells leaf target) then with_changed_cell leaf source (λ x. real.Off) cells else cells
   done (MigrateFrom leaf source target) cells = cells
 
-  -- nothing is done: a migration leaves what runs at its source, and its target stops
+  -- the cells when nothing is done. A leaf that was to be sent stops on its target, if it is there on its source
   abbrev pub undone : Action → Cells → Cells
   undone (MigrateTo leaf source target) cells =
       if is_there (found_at c cells leaf source) then with_changed_cell leaf target (λ x. real.Off) cells else cells
@@ -153,7 +153,7 @@ module _ (c : Cluster) where
   undone (Operation op leaf node interval role) cells = cells
   undone (MigrateFrom leaf source target) cells = cells
 
-  -- it isn't done in time: a start comes true later
+  -- the cells when it isn't done in time: what a start finds off comes up later
   abbrev pub given_up_op : Op → ℕ → ℕ → Cells → Cells
   given_up_op Start leaf node cells = with_changed_cell leaf node rising_from cells
   given_up_op Stop leaf node cells = cells
@@ -161,6 +161,7 @@ module _ (c : Cluster) where
   given_up_op Demote leaf node cells = cells
   given_up_op Monitor leaf node cells = cells
 
+  -- the same of each action; a migration is undone
   abbrev pub given_up : Action → Cells → Cells
   given_up (Operation op leaf node interval role) cells = given_up_op op leaf node cells
   given_up (MigrateTo leaf source target) cells = undone (MigrateTo leaf source target) cells

@@ -45,11 +45,11 @@ fenced (MigrateFrom leaf source target) nodes = nodes
 
 -- what comes up has come up
 abbrev pub calm : World → World
-calm w = record { nodes = w.nodes; cells = λ r n. risen (w.cells r n); drawn = w.drawn; given = w.given }
+calm w = record { nodes = w.nodes; cells = λ r n. risen (w.cells r n); drawn = w.drawn; faults = w.faults }
 
 -- some numbers more were drawn
 abbrev pub with_draws : World → ℕ → World
-with_draws w more = record { nodes = w.nodes; cells = w.cells; drawn = w.drawn + more; given = w.given }
+with_draws w more = record { nodes = w.nodes; cells = w.cells; drawn = w.drawn + more; faults = w.faults }
 
 -- what happens, before one of the actions in flight is drawn: a node leaves or joins, or an action ends so
 pub data Happening : Type 0 where
@@ -71,7 +71,7 @@ drawn_next number drawn bound = draw number (drawn + 1) bound
 
 -- the first number decides what comes. It is drawn in any case, and counts while a fault may be given
 abbrev pub first_number : ℕ → World → Option ℕ
-first_number number w = if nat_lt w.given most_faults then Some (drawn_next number w.drawn 20) else None
+first_number number w = if nat_lt w.faults most_faults then Some (drawn_next number w.drawn 20) else None
 
 -- the turn, with this place of those in flight
 abbrev pub turn_by : Happening → ℕ → Turn
@@ -110,7 +110,7 @@ module _ (c : Cluster) (number : ℕ) (w : World) where
 
   -- the simulated cluster when the turn comes: what comes up has come up, and the numbers are drawn
   abbrev pub turned : World
-  turned = record { nodes = w.nodes; cells = λ r n. risen (w.cells r n); drawn = drawn_by happening.happens happening.drawn; given = w.given }
+  turned = record { nodes = w.nodes; cells = λ r n. risen (w.cells r n); drawn = drawn_by happening.happens happening.drawn; faults = w.faults }
 
 module _ (c : Cluster) (w : World) where
   -- a node has left: what runs there runs on where nodes are fenced, and has stopped where they aren't
@@ -119,7 +119,7 @@ module _ (c : Cluster) (w : World) where
     nodes = with_node node (if c.properties.fencing then standing.Lost else standing.Off) w.nodes;
     cells = if c.properties.fencing then w.cells else without_node node w.cells;
     drawn = w.drawn;
-    given = w.given + 1;
+    faults = w.faults + 1;
   }
 
   -- a node has joined, and nothing runs there
@@ -128,7 +128,7 @@ module _ (c : Cluster) (w : World) where
     nodes = with_node node standing.Up w.nodes;
     cells = without_node node w.cells;
     drawn = w.drawn;
-    given = w.given + 1;
+    faults = w.faults + 1;
   }
 
   -- the cells when an action has ended so
@@ -151,7 +151,7 @@ module _ (c : Cluster) (w : World) where
     nodes = nodes_after f a;
     cells = cells_after f a;
     drawn = w.drawn;
-    given = if is_fault f then w.given + 1 else w.given;
+    faults = if is_fault f then w.faults + 1 else w.faults;
   }
 
   -- what is said of the action of a number that ends
@@ -163,10 +163,10 @@ module _ (c : Cluster) (w : World) where
 
   -- an action has begun
   abbrev pub after_begin : Action → World
-  after_begin a = record { nodes = w.nodes; cells = begun c a w.cells; drawn = w.drawn; given = w.given }
+  after_begin a = record { nodes = w.nodes; cells = begun c a w.cells; drawn = w.drawn; faults = w.faults }
 
 -- what may come with so many actions in flight, where so many faults were given: a fault only while one may be given
 abbrev pub MayCome : ℕ → ℕ → Turn → Type 0
-MayCome count given (turn.Leaves node) = given < most_faults
-MayCome count given (turn.Joins node) = given < most_faults
-MayCome count given (turn.Ends place f) = (place < count) × (is_fault f ≡ true → given < most_faults)
+MayCome count faults (turn.Leaves node) = faults < most_faults
+MayCome count faults (turn.Joins node) = faults < most_faults
+MayCome count faults (turn.Ends place f) = (place < count) × (is_fault f ≡ true → faults < most_faults)

@@ -23,7 +23,7 @@ pub record Agrees (k : WorldOf) (c : Cluster) (es : List Event) (taken : ℕ) : 
   pub world : World
   pub lives : Lives c k.reality.number first es world
   pub shows : ShowsWorld k.reality world
-  pub few : taken ≤ world.given
+  pub few : taken ≤ world.faults
 
 -- the two are one simulated cluster, at whatever moments: of one cluster and one number, and begun with as many events
 pub record IsOfOne (old new : WorldOf) : Type 0 where

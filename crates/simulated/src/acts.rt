@@ -32,7 +32,7 @@ pub fn set_if_found(
     }
 }
 
-/// An action begins: the target of a migration comes to run where its source does.
+/// An action begins. Once a migration is sent, its leaf runs on the target too, if it is there on the source.
 pub fn begin(cluster: &Cluster, action: Action, cells: &mut Vec<Real>)
     requires { length cells.old.items ≡ length cluster.now.leaves * length cluster.now.nodes }
     ensures held { (held : Cells) → Holds cluster.now cells.old.items held → Holds cluster.now cells.new.items (begun cluster.now action held) }
@@ -89,7 +89,7 @@ fn do_op(cluster: &Cluster, op: Op, leaf: LeafId, node: NodeId, cells: &mut Vec<
     }
 }
 
-/// An action is done: what has migrated runs no more at the source.
+/// An action is done. What was sent runs no more on its source, if it is there on the target.
 pub fn act(cluster: &Cluster, action: Action, cells: &mut Vec<Real>)
     requires limits { KeepsLimits cluster.now }
     requires full { length cells.old.items ≡ length cluster.now.leaves * length cluster.now.nodes }
@@ -108,7 +108,7 @@ pub fn act(cluster: &Cluster, action: Action, cells: &mut Vec<Real>)
     }
 }
 
-/// An action isn't done: a migration leaves what runs at its source, and its target stops.
+/// An action isn't done. A leaf that was to be sent stops on its target, if it is there on its source.
 pub fn undo(cluster: &Cluster, action: Action, cells: &mut Vec<Real>)
     requires { length cells.old.items ≡ length cluster.now.leaves * length cluster.now.nodes }
     ensures held { (held : Cells) → Holds cluster.now cells.old.items held → Holds cluster.now cells.new.items (undone cluster.now action held) }

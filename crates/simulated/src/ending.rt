@@ -34,12 +34,12 @@ fn leave_cells(cluster: &Cluster, node: NodeId, cells: &mut Vec<Real>)
 impl Reality<'_> {
     /// A node leaves without a word. It is said so. It asks that fewer than 16 faults were given.
     pub fn leave(&mut self, node: NodeId) -> Answer
-        requires { self.old.given < 16 }
+        requires { self.old.faults < 16 }
         ensures shows { (w : World) → ShowsWorld self.old w → ShowsWorld self.new (after_leaving self.old.cluster w node) }
         ensures answer { result ≡ answer.Lost node }
         ensures same { IsOfSame self.old self.new }
     {
-        self.given += 1;
+        self.faults += 1;
         set_node(&mut self.nodes, node, left_behind(self.cluster));
         leave_cells(self.cluster, node, &mut self.cells);
         Answer::Lost { node }
@@ -47,12 +47,12 @@ impl Reality<'_> {
 
     /// A node joins. It is said so. It asks that fewer than 16 faults were given.
     pub fn join(&mut self, node: NodeId) -> Answer
-        requires { self.old.given < 16 }
+        requires { self.old.faults < 16 }
         ensures shows { (w : World) → ShowsWorld self.old w → ShowsWorld self.new (after_joining self.old.cluster w node) }
         ensures answer { result ≡ answer.Up node }
         ensures same { IsOfSame self.old self.new }
     {
-        self.given += 1;
+        self.faults += 1;
         set_node(&mut self.nodes, node, Standing::Up);
         clear_node(self.cluster, node, &mut self.cells);
         Answer::Up { node }
@@ -72,12 +72,12 @@ impl Reality<'_> {
 
     /// An action does what it is for, and its agent says that it failed.
     fn end_badly(&mut self, number: u32, action: Action) -> Answer
-        requires { self.old.given < 16 }
+        requires { self.old.faults < 16 }
         ensures answer { (w : World) → ShowsWorld self.old w → result ≡ answer_by_fate self.old.cluster w fate.DoneBadly number action }
         ensures shows { (w : World) → ShowsWorld self.old w → ShowsWorld self.new (after_end self.old.cluster w fate.DoneBadly action) }
         ensures same { IsOfSame self.old self.new }
     {
-        self.given += 1;
+        self.faults += 1;
         act(self.cluster, action, &mut self.cells);
         Answer::End {
             number,
@@ -87,12 +87,12 @@ impl Reality<'_> {
 
     /// An action does nothing, and its agent says that it failed.
     fn end_undone(&mut self, number: u32, action: Action) -> Answer
-        requires { self.old.given < 16 }
+        requires { self.old.faults < 16 }
         ensures answer { (w : World) → ShowsWorld self.old w → result ≡ answer_by_fate self.old.cluster w fate.Undone number action }
         ensures shows { (w : World) → ShowsWorld self.old w → ShowsWorld self.new (after_end self.old.cluster w fate.Undone action) }
         ensures same { IsOfSame self.old self.new }
     {
-        self.given += 1;
+        self.faults += 1;
         undo(self.cluster, action, &mut self.cells);
         Answer::End {
             number,
@@ -102,13 +102,13 @@ impl Reality<'_> {
 
     /// An action isn't done in time. A start may come true later.
     fn time_out(&mut self, number: u32, action: Action) -> Answer
-        requires few { self.old.given < 16 }
+        requires few { self.old.faults < 16 }
         requires calm { self.old.rising ≡ None }
         ensures answer { (w : World) → ShowsWorld self.old w → result ≡ answer_by_fate self.old.cluster w fate.TimedOut number action }
         ensures shows { (w : World) → ShowsWorld self.old w → ShowsWorld self.new (after_end self.old.cluster w fate.TimedOut action) }
         ensures same { IsOfSame self.old self.new }
     {
-        self.given += 1;
+        self.faults += 1;
         self.rising = give_up(self.cluster, action, &mut self.cells);
         Answer::Timeout { number }
     }
@@ -116,7 +116,7 @@ impl Reality<'_> {
     /// The action of this number ends. What is said of it. It asks that nothing comes up, and, of a fault, that fewer than
     /// 16 were given.
     pub fn end(&mut self, number: u32, action: Action, fate: Fate) -> Answer
-        requires few { is_fault fate ≡ true → self.old.given < 16 }
+        requires few { is_fault fate ≡ true → self.old.faults < 16 }
         requires calm { self.old.rising ≡ None }
         ensures answer { (w : World) → ShowsWorld self.old w → result ≡ answer_by_fate self.old.cluster w fate number action }
         ensures shows { (w : World) → ShowsWorld self.old w → ShowsWorld self.new (after_end self.old.cluster w fate action) }

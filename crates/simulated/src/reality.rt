@@ -29,17 +29,18 @@ pub struct Reality<'c> {
     /// Of the numbers that are drawn.
     pub(crate) state: u32,
     /// How many faults were given.
-    pub(crate) given: u32,
+    pub(crate) faults: u32,
 }
 
 impl<'c> Model for Reality<'c> {
-    ghost use Rattle.simulated.specs.Kept.{RealityOf, RealityFits, reality};
+    ghost use Rattle.simulated.specs.Kept.{RealityOf, reality};
+    ghost use Rattle.simulated.specs.Inner.Kept.{RealityFits};
 
     ghost Value = { RealityOf };
 
-    ghost view = { λ k. reality k.cluster.now k.nodes.items k.cells.items k.rising k.number k.state k.given };
+    ghost view = { λ k. reality k.cluster.now k.nodes.items k.cells.items k.rising k.number k.state k.faults };
 
-    ghost invariant = { λ k. RealityFits (reality k.cluster.now k.nodes.items k.cells.items k.rising k.number k.state k.given) };
+    ghost invariant = { λ k. RealityFits k.cluster.now k.nodes.items k.cells.items };
 }
 
 impl<'c> Reality<'c> {
@@ -63,7 +64,7 @@ impl<'c> Reality<'c> {
             rising: None,
             number,
             state: first_state(number),
-            given: 0,
+            faults: 0,
         }
     }
 
@@ -74,7 +75,7 @@ impl<'c> Reality<'c> {
         found_at(self.cluster, leaf, node, self.cells.as_slice())
     }
 
-    /// An action begins: the target of a migration comes to run where its source does.
+    /// An action begins. Once a migration is sent, its leaf runs on the target too, if it is there on the source.
     pub fn begin(&mut self, action: Action)
         ensures shows { (w : World) → ShowsWorld self.old w → ShowsWorld self.new (after_begin self.old.cluster w action) }
         ensures same { IsOfSame self.old self.new }
@@ -86,7 +87,7 @@ impl<'c> Reality<'c> {
     pub(crate) fn settle(&mut self)
         ensures shows { (w : World) → ShowsWorld self.old w → ShowsWorld self.new (calm w) }
         ensures none { self.new.rising ≡ None }
-        ensures given { self.new.given ≡ self.old.given }
+        ensures faults { self.new.faults ≡ self.old.faults }
         ensures same { IsOfSame self.old self.new }
     {
         raise(self.cluster, self.rising, &mut self.cells);
@@ -100,7 +101,7 @@ impl<'c> Reality<'c> {
         ensures low { result < bound }
         ensures shows { (w : World) → ShowsWorld self.old w → ShowsWorld self.new (with_draws w 1) }
         ensures rising { self.new.rising ≡ self.old.rising }
-        ensures given { self.new.given ≡ self.old.given }
+        ensures faults { self.new.faults ≡ self.old.faults }
         ensures same { IsOfSame self.old self.new }
     {
         self.state = next_state(self.state);

@@ -64,7 +64,7 @@ fn give_up_op(
     }
 }
 
-/// An action isn't done in time: a start comes true later. The cell that comes up.
+/// An action isn't done in time: what a start finds off comes up later, and a migration is undone. The cell that comes up.
 pub fn give_up(cluster: &Cluster, action: Action, cells: &mut Vec<Real>) -> Option<(LeafId, NodeId)>
     requires { length cells.old.items ≡ length cluster.now.leaves * length cluster.now.nodes }
     ensures held { (held : Cells) → Holds cluster.now cells.old.items held → Holds cluster.now cells.new.items (given_up cluster.now action held) }

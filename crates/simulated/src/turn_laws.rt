@@ -24,9 +24,9 @@ pub fn what_runs_may_run()
 /// Each answer applies, where no more answers from outside were taken than faults were given.
 pub fn answers_of_worlds_apply()
     ensures leaves { (c : ClusterOf) (number : ℕ) (es : List EventOf) (w : WorldOf) (flight : List (ℕ × ActionOf)) (taken node : ℕ) → IsWorldWithin c es w
-        → taken ≤ w.given → turn_of c number w (length flight) ≡ turn.Leaves node → applies_after c es flight taken (answer.Lost node) ≡ true }
+        → taken ≤ w.faults → turn_of c number w (length flight) ≡ turn.Leaves node → applies_after c es flight taken (answer.Lost node) ≡ true }
     ensures joins { (c : ClusterOf) (number : ℕ) (es : List EventOf) (w : WorldOf) (flight : List (ℕ × ActionOf)) (taken node : ℕ) → IsWorldWithin c es w
-        → taken ≤ w.given → turn_of c number w (length flight) ≡ turn.Joins node → applies_after c es flight taken (answer.Up node) ≡ true }
+        → taken ≤ w.faults → turn_of c number w (length flight) ≡ turn.Joins node → applies_after c es flight taken (answer.Up node) ≡ true }
     ensures ends { (c : ClusterOf) (es : List EventOf) (w : WorldOf) (flight : List (ℕ × ActionOf)) (taken place k : ℕ) (f : FateOf) (a : ActionOf)
         → slice_get flight place ≡ Some (k, a) → applies_after c es flight taken (answer_by_fate c w f k a) ≡ true }
 {}

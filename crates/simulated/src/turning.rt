@@ -34,12 +34,12 @@ impl Reality<'_> {
     fn roll(&mut self) -> Option<u32>
         ensures first { (w : World) → ShowsWorld self.old w → result ≡ first_number self.old.number w }
         ensures shows { (w : World) → ShowsWorld self.old w → ShowsWorld self.new (with_draws w 1) }
-        ensures early { IfSome result (λ die. self.new.given < 16) }
+        ensures early { IfSome result (λ die. self.new.faults < 16) }
         ensures rising { self.new.rising ≡ self.old.rising }
         ensures same { IsOfSame self.old self.new }
     {
         let drawn = self.draw(20);
-        if self.given < MOST_FAULTS {
+        if self.faults < MOST_FAULTS {
             Some(drawn)
         } else {
             None
@@ -52,7 +52,7 @@ impl Reality<'_> {
             → result ≡ drawing.draw self.old.number (w.drawn + 1) (length self.old.cluster.nodes) }
         ensures shows { (w : World) → ShowsWorld self.old w → ShowsWorld self.new (with_draws w 1) }
         ensures rising { self.new.rising ≡ self.old.rising }
-        ensures given { self.new.given ≡ self.old.given }
+        ensures faults { self.new.faults ≡ self.old.faults }
         ensures same { IsOfSame self.old self.new }
     {
         let count = self.cluster.nodes.len() as u32;
@@ -66,7 +66,7 @@ impl Reality<'_> {
         ensures node { IfSome result IsOfNode }
         ensures low { IfSome result (λ turn. IsForNode first) }
         ensures rising { self.new.rising ≡ self.old.rising }
-        ensures given { self.new.given ≡ self.old.given }
+        ensures faults { self.new.faults ≡ self.old.faults }
         ensures same { IsOfSame self.old self.new }
     {
         let Some(die) = first else {
@@ -84,7 +84,7 @@ impl Reality<'_> {
         requires { 0 < count }
         ensures turn { (w : World) → ShowsWorld self.old w → result ≡ turn_of self.old.cluster self.old.number w count }
         ensures shows { (w : World) → ShowsWorld self.old w → ShowsWorld self.new (turned self.old.cluster self.old.number w) }
-        ensures may { MayCome count self.new.given result }
+        ensures may { MayCome count self.new.faults result }
         ensures calm { self.new.rising ≡ None }
         ensures same { IsOfSame self.old self.new }
     {

@@ -18,8 +18,8 @@ use Rattle.cluster_model.specs.Inner.Clones.{cloned_by, uncloned}
 use Rattle.cluster_model.specs.Inner.Groups.{grouped_by}
 use Rattle.cluster_model.specs.Inner.Metas.{meta_of, no_meta, or_meta}
 use Rattle.cluster_model.specs.Operations.{after_a_stop, fail_of, monitors_of}
-use Rattle.cluster_model.specs.Settings.{count_nodes}
-use Rattle.cluster_model.specs.Inner.Settings.{defaults_of, option_of}
+use Rattle.cluster_model.specs.Settings.{count_nodes, option_given}
+use Rattle.cluster_model.specs.Inner.Settings.{defaults_of}
 use Rattle.cluster_model.specs.Inner.Tables.{lookup}
 use Rattle.cluster_model.specs.Leaves.{target_role_named, plain_stickiness}
 
@@ -27,8 +27,8 @@ use Rattle.cluster_model.specs.Leaves.{target_role_named, plain_stickiness}
 unfoldable pub surroundings_of : List Statement → Surroundings
 surroundings_of statements =
     let cloned = cloned_by (count_nodes statements) statements in record {
-      fencing = option_of (codes "stonith-enabled") true statements;
-      maintenance = option_of (codes "maintenance-mode") false statements;
+      fencing = option_given (codes "stonith-enabled") true statements;
+      maintenance = option_given (codes "maintenance-mode") false statements;
       defaults = defaults_of statements;
       cloned = cloned;
       grouped = grouped_by cloned statements;

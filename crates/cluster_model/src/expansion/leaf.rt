@@ -1,6 +1,6 @@
 //! The leaves of a configuration.
 
-ghost use Rattle.std.specs.Prelude.{◌≡◌, ◌++◌, ◌&&◌, not, true, unwrap_or, IfOk, OnOk};
+ghost use Rattle.std.specs.Prelude.{◌≡◌, ◌≤◌, ◌+◌, ◌++◌, ◌&&◌, length, not, true, unwrap_or, IfOk, OnOk};
 ghost use Rattle.cluster_model.specs.Inner.Leaves.{leaf_in, primitive_leaf, leaves_in, leaves_of};
 ghost use Rattle.cluster_model.specs.Leaves.{plain_stickiness, target_role_named};
 ghost use Rattle.cluster_model.specs.Operations.{fail_of, monitors_of};
@@ -109,7 +109,8 @@ fn add_leaf(
     leaves: &mut Listed<Leaf>,
     form: &Form,
 ) -> Result<(), NoMemory>
-    ensures { OnOk result (leaves.new ≡ leaves.old ++ leaf_in surroundings.now form.now) }
+    ensures added { OnOk result (leaves.new ≡ leaves.old ++ leaf_in surroundings.now form.now) }
+    ensures few { OnOk result (length leaves.new ≤ length leaves.old + 1) }
 {
     let Form::Primitive { id, meta, ops, .. } = form else {
         return Ok(());
@@ -123,7 +124,8 @@ fn leaves_in(
     surroundings: &Surroundings<'_>,
     statements: &[Statement],
 ) -> Result<Listed<Leaf>, NoMemory>
-    ensures { IfOk result (λ leaves. leaves ≡ leaves_in surroundings.now statements.now) }
+    ensures leaves { IfOk result (λ leaves. leaves ≡ leaves_in surroundings.now statements.now) }
+    ensures few { IfOk result (λ leaves. length leaves ≤ length statements.now) }
 {
     let mut leaves = Listed::new(alloc);
     for statement in statements {
@@ -135,7 +137,9 @@ fn leaves_in(
 /// A leaf for each primitive.
 #[tactic(auto, unfolding(crate::specs::Inner::Leaves::leaves_of))]
 pub fn leaves_of(alloc: Global, statements: &[Statement]) -> Result<Listed<Leaf>, NoMemory>
-    ensures { IfOk result (λ leaves. leaves ≡ leaves_of statements.now) }
+    requires { length statements.now ≤ 1000000000 }
+    ensures leaves { IfOk result (λ leaves. leaves ≡ leaves_of statements.now) }
+    ensures few { IfOk result (λ leaves. length leaves ≤ length statements.now) }
 {
     let surroundings = surroundings_of(alloc, statements)?;
     leaves_in(alloc, &surroundings, statements)

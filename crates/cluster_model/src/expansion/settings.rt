@@ -1,13 +1,13 @@
 //! What holds of the whole cluster.
 
-ghost use Rattle.std.specs.Prelude.{◌≡◌, ◌+◌, if◌then◌else◌, length, None, unwrap_or, IfOk};
+ghost use Rattle.std.specs.Prelude.{◌≡◌, ◌≤◌, ◌<◌, ◌+◌, if◌then◌else◌, length};
+ghost use Rattle.crm_parse.specs.Values.{bool_of};
 ghost use Rattle.cluster_model.specs.Inner.Metas.{no_meta};
-ghost use Rattle.cluster_model.specs.Settings.{count_nodes, defaults_in, node_names_in, properties_in};
-ghost use Rattle.cluster_model.specs.Inner.Settings.{defaults_of, option_from, option_of};
+ghost use Rattle.cluster_model.specs.Settings.{count_nodes, defaults_in, node_names_in, option_as, option_given, properties_in};
+ghost use Rattle.cluster_model.specs.Inner.Settings.{defaults_of};
 
 use crate::expansion::meta::{Meta, meta_of, no_meta, or_meta};
 use crate::values::bool_at;
-use cluster_types::NoMemory;
 use crm_parse::{Form, Kv, SettingsWord, Statement};
 
 /// The pairs of the options of the cluster that a statement sets: none where it sets no such options.
@@ -24,21 +24,23 @@ pub fn properties_in(form: &Form) -> &[Kv]
     }
 }
 
-fn option_from(key: &[u8], statements: &[Statement]) -> Option<bool>
-    ensures { result ≡ option_from key.now None statements.now }
+/// An option that is yes or no, where a statement gives it.
+fn flag_in(key: &[u8], statements: &[Statement]) -> Option<bool>
+    ensures { result ≡ option_as bool_of key.now statements.now }
 {
-    let mut found = None;
     for statement in statements {
-        found = found.or(bool_at(key, properties_in(&statement.form)));
+        if let Some(flag) = bool_at(key, properties_in(&statement.form)) {
+            return Some(flag);
+        }
     }
-    found
+    None
 }
 
 /// An option that is yes or no.
-pub fn option_of(key: &[u8], default: bool, statements: &[Statement]) -> bool
-    ensures { result ≡ option_of key.now default statements.now }
+pub fn option_given(key: &[u8], default: bool, statements: &[Statement]) -> bool
+    ensures { result ≡ option_given key.now default statements.now }
 {
-    option_from(key, statements).unwrap_or(default)
+    flag_in(key, statements).unwrap_or(default)
 }
 
 fn defaults_in(form: &Form) -> &[Kv]
@@ -72,23 +74,22 @@ fn is_node(form: &Form) -> bool
 }
 
 /// How many nodes there are with one more statement.
-fn count_after(count: u32, form: &Form) -> Result<u32, NoMemory>
-    ensures { IfOk result (λ after. after ≡ count + length (node_names_in form.now)) }
+fn count_after(count: u32, form: &Form) -> u32
+    requires { count < 1000000000 }
+    ensures counted { result ≡ count + length (node_names_in form.now) }
+    ensures few { result ≤ count + 1 }
 {
-    if is_node(form) {
-        count.checked_add(1).ok_or(NoMemory)
-    } else {
-        Ok(count)
-    }
+    if is_node(form) { count + 1 } else { count }
 }
 
-/// How many nodes there are. More than a number can tell are more than memory can hold.
-pub fn count_nodes(statements: &[Statement]) -> Result<u32, NoMemory>
-    ensures { IfOk result (λ count. count ≡ count_nodes statements.now) }
+/// How many nodes there are.
+pub fn count_nodes(statements: &[Statement]) -> u32
+    requires { length statements.now ≤ 1000000000 }
+    ensures { result ≡ count_nodes statements.now }
 {
-    let mut count: u32 = 0;
+    let mut count = 0;
     for statement in statements {
-        count = count_after(count, &statement.form)?;
+        count = count_after(count, &statement.form);
     }
-    Ok(count)
+    count
 }

@@ -1,6 +1,6 @@
 //! The first and the last leaf of each resource.
 
-ghost use Rattle.std.specs.Prelude.{◌≡◌, ◌++◌, unwrap_or, slice_get, IfOk, OnOk};
+ghost use Rattle.std.specs.Prelude.{◌≡◌, ◌≤◌, ◌++◌, length, unwrap_or, slice_get, IfOk, OnOk};
 ghost use Rattle.std.specs.Option.{option_copied, option_map_or};
 ghost use Rattle.cluster_model.specs.Inner.Spans.{ends_by, group_ends_in, ends_named, ends_of, number, number_of, numbers_of, span_in, spans_in, spans_of};
 
@@ -19,15 +19,16 @@ pub(crate) struct Ends {
     pub last: LeafId,
 }
 
-/// Each leaf with its number. More leaves than a number can tell are more than memory can hold.
+/// Each leaf with its number.
 fn numbers_of<'n>(alloc: Global, leaves: &'n [Leaf]) -> Result<NameTable<'n, LeafId>, NoMemory>
+    requires { length leaves.now ≤ 1000000000 }
     ensures { IfOk result (λ numbers. numbers ≡ numbers_of leaves.now) }
 {
     let mut numbers = NameTable::new(alloc);
     let mut next: LeafId = 0;
     for leaf in leaves {
         numbers.add(&leaf.name, next)?;
-        next = next.checked_add(1).ok_or(NoMemory)?;
+        next += 1;
     }
     Ok(numbers)
 }
@@ -143,6 +144,7 @@ pub fn spans_of(
     leaves: &[Leaf],
     statements: &[Statement],
 ) -> Result<Listed<Span>, NoMemory>
+    requires { length leaves.now ≤ 1000000000 }
     ensures { IfOk result (λ spans. spans ≡ spans_of leaves.now statements.now) }
 {
     let numbers = numbers_of(alloc, leaves)?;

@@ -1,10 +1,10 @@
-ghost use Rattle.std.specs.Prelude.{◌≡◌, IfOk};
+ghost use Rattle.std.specs.Prelude.{◌≡◌, ◌≤◌, IfOk, length};
 ghost use Rattle.cluster_model.specs.Inner.Leaves.{around, meta_around, surroundings_of};
 
 use crate::expansion::clones::{InClone, cloned_by};
 use crate::expansion::groups::{InGroup, grouped_by};
 use crate::expansion::meta::{Meta, meta_of, no_meta, or_meta};
-use crate::expansion::settings::{count_nodes, defaults_of, option_of};
+use crate::expansion::settings::{count_nodes, defaults_of, option_given};
 use crate::name_table::NameTable;
 use cluster_types::NoMemory;
 use crm_lex::Name;
@@ -31,15 +31,16 @@ pub fn surroundings_of<'n>(
     alloc: Global,
     statements: &'n [Statement],
 ) -> Result<Surroundings<'n>, NoMemory>
+    requires { length statements.now ≤ 1000000000 }
     ensures { IfOk result (λ surroundings. surroundings ≡ surroundings_of statements.now) }
 {
-    let nodes = count_nodes(statements)?;
+    let nodes = count_nodes(statements);
     let cloned = cloned_by(alloc, nodes, statements)?;
     let grouped = grouped_by(alloc, &cloned, statements);
     let (cloned, grouped) = with(cloned, grouped)?;
     Ok(Surroundings {
-        fencing: option_of(b"stonith-enabled", true, statements),
-        maintenance: option_of(b"maintenance-mode", false, statements),
+        fencing: option_given(b"stonith-enabled", true, statements),
+        maintenance: option_given(b"maintenance-mode", false, statements),
         defaults: defaults_of(statements),
         cloned,
         grouped,

@@ -1,4 +1,4 @@
-ghost use Rattle.std.specs.Prelude.{◌≡◌, IfOk};
+ghost use Rattle.std.specs.Prelude.{◌≡◌, ◌≤◌, IfOk, length};
 ghost use Rattle.faults.specs.Reading.{Gives};
 ghost use Rattle.cluster_model.specs.Expansion.{expansion_of};
 ghost use Rattle.cluster_model.specs.Inner.Expansion.{expansion_by, leaves_with_spans};
@@ -12,7 +12,9 @@ use crm_parse::{Crm, Statement};
 use std::alloc::Global;
 
 fn leaves_with_spans(alloc: Global, statements: &[Statement]) -> Result<Leaves, NoMemory>
-    ensures { IfOk result (λ leaves. leaves ≡ leaves_with_spans statements.now) }
+    requires { length statements.now ≤ 1000000000 }
+    ensures leaves { IfOk result (λ leaves. leaves ≡ leaves_with_spans statements.now) }
+    ensures few { IfOk result (λ leaves. length leaves.leaves ≤ length statements.now) }
 {
     let leaves = leaves_of(alloc, statements)?;
     let spans = spans_of(alloc, leaves.as_slice(), statements)?;
@@ -21,7 +23,9 @@ fn leaves_with_spans(alloc: Global, statements: &[Statement]) -> Result<Leaves, 
 
 /// The leaves of some statements, or the first fault.
 fn expansion_by(alloc: Global, statements: &[Statement]) -> Result<Leaves, ExpandFault>
-    ensures { Gives (λ leaves. leaves) result (expansion_by statements.now) }
+    requires { length statements.now ≤ 1000000000 }
+    ensures leaves { Gives (λ leaves. leaves) result (expansion_by statements.now) }
+    ensures few { IfOk result (λ leaves. length leaves.leaves ≤ length statements.now) }
 {
     if let Some(fault) = fault_of(alloc, statements)? {
         return Err(fault);
@@ -30,7 +34,7 @@ fn expansion_by(alloc: Global, statements: &[Statement]) -> Result<Leaves, Expan
 }
 
 /// Makes the leaves of a configuration, as `parse` gives it (Pacemaker Explained, "Groups" and "Clones"). Each primitive is one leaf, with
-/// what its own statement, its group, its clone and the defaults say of it.
+/// what its own statement, its group, its clone and the defaults say of it. There are at most 10^9 statements; a text of 16 MiB has fewer.
 ///
 /// A fault is that of the first statement that is at fault, at its line: `DuplicateName` where an earlier node has its name, or an earlier
 /// resource or rule its id; `UnknownName` where a member or a child isn't the id of a resource; `NestedTwice` where a member isn't a
@@ -39,7 +43,9 @@ fn expansion_by(alloc: Global, statements: &[Statement]) -> Result<Leaves, Expan
 /// Where a statement has several causes, the first in this order counts. `NoMemory` comes when memory runs out.
 #[tactic(auto, using(crate::proofs::ExpansionSaid::given_as_said))]
 pub fn expand(alloc: Global, crm: &Crm) -> Result<Leaves, ExpandFault>
-    ensures { Gives (λ leaves. leaves) result (expansion_of crm.now.statements) }
+    requires { length crm.now.statements ≤ 1000000000 }
+    ensures leaves { Gives (λ leaves. leaves) result (expansion_of crm.now.statements) }
+    ensures few { IfOk result (λ leaves. length leaves.leaves ≤ length crm.now.statements) }
 {
     expansion_by(alloc, crm.statements.as_slice())
 }

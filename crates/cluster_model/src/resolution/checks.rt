@@ -1,6 +1,6 @@
 //! Which statement is at fault, loops aside.
 
-ghost use Rattle.std.specs.Prelude.{◌≡◌, ◌≤◌, [], length, IfOk};
+ghost use Rattle.std.specs.Prelude.{◌≡◌, ◌≤◌, [], length};
 ghost use Rattle.std.specs.List.{list_any};
 ghost use Rattle.std.specs.Option.{option_or};
 ghost use Rattle.cluster_model.specs.Successive.{successive};
@@ -18,7 +18,7 @@ use crate::resolution::directory::Directory;
 use crate::resolution::locations::{role_of_word, role_written};
 use crate::resolution::orders::{Point, first_point, is_down, then_point};
 use crate::{ModelCause, ModelFault};
-use cluster_types::{LeafId, NoMemory, Op, Role};
+use cluster_types::{LeafId, Op, Role};
 use crm_lex::Name;
 use crm_parse::{Form, OrderStep, RoleWord, RuleForm, Statement};
 
@@ -235,21 +235,21 @@ fn cause_of(directory: &Directory<'_>, counts: Counts, form: &Form) -> Option<Mo
 }
 
 /// The first statement that is at fault.
-pub fn first_fault(directory: &Directory<'_>, statements: &[Statement]) -> Result<Checked, NoMemory>
-    ensures fault { IfOk result (λ found. found.fault ≡ first_fault (own_cause directory.now) [] statements.now) }
-    ensures sound { IfOk result (λ found. found.sound ≡ sound_count (own_cause directory.now) [] statements.now) }
-    ensures within { IfOk result (λ found. found.sound ≤ length statements.now) }
+pub fn first_fault(directory: &Directory<'_>, statements: &[Statement]) -> Checked
+    ensures fault { result.fault ≡ first_fault (own_cause directory.now) [] statements.now }
+    ensures sound { result.sound ≡ sound_count (own_cause directory.now) [] statements.now }
+    ensures within { result.sound ≤ length statements.now }
 {
     let mut counts = nothing_counted();
     let mut sound: usize = 0;
     for statement in statements {
-        counts = counted_with(counts, &statement.form)?;
+        counts = counted_with(counts, &statement.form);
         if let Some(cause) = cause_of(directory, counts, &statement.form) {
             let line = statement.line;
             let fault = Some(ModelFault::At { line, cause });
-            return Ok(Checked { sound, fault });
+            return Checked { sound, fault };
         }
         sound += 1;
     }
-    Ok(Checked { sound, fault: None })
+    Checked { sound, fault: None }
 }

@@ -1,10 +1,9 @@
 //! How many nodes, leaves and rules statements have.
 
-ghost use Rattle.std.specs.Prelude.{◌≡◌, ◌+◌, IfOk};
+ghost use Rattle.std.specs.Prelude.{◌≡◌, ◌≤◌, ◌<◌, ◌+◌, ◌^◌};
 ghost use Rattle.cluster_model.specs.Counting.{colocation_count, location_count, order_count, rule_count};
 ghost use Rattle.cluster_model.specs.Inner.Counting.{counted_with, leaf_count, node_count, nothing_counted};
 
-use cluster_types::NoMemory;
 use crm_parse::Form;
 
 /// How many nodes, leaves and rules some statements have.
@@ -12,7 +11,7 @@ use crm_parse::Form;
 pub(crate) struct Counts {
     pub nodes: usize,
     pub leaves: usize,
-    pub rules: usize,
+    pub rules: u128,
 }
 
 /// Nothing stands before the first statement.
@@ -27,7 +26,8 @@ pub fn nothing_counted() -> Counts
 }
 
 fn node_count(form: &Form) -> usize
-    ensures { result ≡ node_count form.now }
+    ensures count { result ≡ node_count form.now }
+    ensures few { result ≤ 1 }
 {
     match form {
         Form::Node { .. } => 1,
@@ -36,7 +36,8 @@ fn node_count(form: &Form) -> usize
 }
 
 fn leaf_count(form: &Form) -> usize
-    ensures { result ≡ leaf_count form.now }
+    ensures count { result ≡ leaf_count form.now }
+    ensures few { result ≤ 1 }
 {
     match form {
         Form::Primitive { .. } => 1,
@@ -74,28 +75,27 @@ pub fn order_count(form: &Form) -> usize
     }
 }
 
-/// The sum of two counts. More than a number can tell are more than memory can hold.
-pub fn sum(one: usize, other: usize) -> Result<usize, NoMemory>
-    ensures { IfOk result (λ total. total ≡ one + other) }
+fn rule_count(form: &Form) -> u128
+    ensures count { result ≡ rule_count form.now }
+    ensures few { result < 2 ^ 66 }
 {
-    one.checked_add(other).ok_or(NoMemory)
-}
-
-fn rule_count(form: &Form) -> Result<usize, NoMemory>
-    ensures { IfOk result (λ count. count ≡ rule_count form.now) }
-{
-    let joins = sum(location_count(form), colocation_count(form))?;
-    sum(joins, order_count(form))
+    location_count(form) as u128 + colocation_count(form) as u128 + order_count(form) as u128
 }
 
 /// What statements have, with one more.
 #[tactic(auto, unfolding(crate::specs::Inner::Counting::counted_with))]
-pub fn counted_with(counts: Counts, form: &Form) -> Result<Counts, NoMemory>
-    ensures { IfOk result (λ counted. counted ≡ counted_with counts form.now) }
+pub fn counted_with(counts: Counts, form: &Form) -> Counts
+    requires nodes { counts.nodes < 2 ^ 63 }
+    requires leaves { counts.leaves < 2 ^ 63 }
+    requires rules { counts.rules < 2 ^ 127 }
+    ensures counted { result ≡ counted_with counts form.now }
+    ensures nodes { result.nodes ≤ counts.nodes + 1 }
+    ensures leaves { result.leaves ≤ counts.leaves + 1 }
+    ensures rules { result.rules ≤ counts.rules + 2 ^ 66 }
 {
-    Ok(Counts {
-        nodes: sum(counts.nodes, node_count(form))?,
-        leaves: sum(counts.leaves, leaf_count(form))?,
-        rules: sum(counts.rules, rule_count(form)?)?,
-    })
+    Counts {
+        nodes: counts.nodes + node_count(form),
+        leaves: counts.leaves + leaf_count(form),
+        rules: counts.rules + rule_count(form),
+    }
 }

@@ -1,6 +1,6 @@
 //! What the names in rules stand for.
 
-ghost use Rattle.std.specs.Prelude.{◌≡◌, ◌++◌, map, slice_get, IfOk, OnOk};
+ghost use Rattle.std.specs.Prelude.{◌≡◌, ◌≤◌, ◌++◌, length, map, slice_get, IfOk, OnOk};
 ghost use Rattle.cluster_model.specs.Inner.Directories.{are_there, directory_of, ends_in_directory, span_ends, first_named, groups_of, is_local, is_one_group, is_unknown, is_unknown_node, joins_copies, last_named, may_promote, members_in, node_named, nodes_of, resources_of, traits_of};
 
 use crate::expansion::spans::Ends;
@@ -29,11 +29,12 @@ pub(crate) struct Directory<'n> {
     pub leaves: Listed<Traits>,
 }
 
-/// Each node with its number. More nodes than a number can tell are more than memory can hold.
+/// Each node with its number.
 fn nodes_of<'n>(
     alloc: Global,
     statements: &'n [Statement],
 ) -> Result<NameTable<'n, NodeId>, NoMemory>
+    requires { length statements.now ≤ 1000000000 }
     ensures { IfOk result (λ nodes. nodes ≡ nodes_of statements.now) }
 {
     let mut nodes = NameTable::new(alloc);
@@ -41,7 +42,7 @@ fn nodes_of<'n>(
     for statement in statements {
         if let Form::Node { name, .. } = &statement.form {
             nodes.add(name, next)?;
-            next = next.checked_add(1).ok_or(NoMemory)?;
+            next += 1;
         }
     }
     Ok(nodes)
@@ -136,6 +137,7 @@ pub fn directory_of<'n>(
     leaves: &'n Leaves,
     statements: &'n [Statement],
 ) -> Result<Directory<'n>, NoMemory>
+    requires { length statements.now ≤ 1000000000 }
     ensures { IfOk result (λ directory. directory ≡ directory_of leaves.now statements.now) }
 {
     let groups = groups_of(alloc, statements)?;

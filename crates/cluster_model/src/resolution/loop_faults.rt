@@ -1,6 +1,6 @@
 //! Rules that need each other in a circle.
 
-ghost use Rattle.std.specs.Prelude.{◌≡◌, [], List, IfOk, Contains};
+ghost use Rattle.std.specs.Prelude.{◌≡◌, ◌≤◌, [], List, length, IfOk, Contains};
 ghost use Rattle.cluster_types.specs.declared.leaf.Leaf.{Leaf};
 ghost use Rattle.cluster_types.specs.declared.rules.Colocation.{Colocation};
 ghost use Rattle.cluster_types.specs.declared.rules.Order.{Order};
@@ -10,22 +10,19 @@ ghost use Rattle.cluster_model.specs.FirstFaults.{first_fault};
 ghost use Rattle.cluster_model.specs.Inner.Resolution.{cluster_of, loop_cause};
 ghost use Rattle.cluster_model.specs.Inner.Search.{closed_by, closing_cause};
 
-use crate::resolution::counts::{colocation_count, order_count, sum};
+use crate::resolution::counts::{colocation_count, order_count};
 use crate::{ModelCause, ModelFault};
 use cluster_types::{Cluster, NoMemory};
 use crm_parse::Statement;
 use loops::{colocation_loop, order_loop};
 use std::alloc::Global;
 
-/// More leaves than these are more than memory can hold.
-const MOST_LEAVES: usize = 1_000_000_000;
-
 /// Whether the place is one of the first so many.
-fn is_among(place: Option<usize>, count: usize) -> bool
+fn is_among(place: Option<usize>, count: u128) -> bool
     ensures { result ≡ is_closed_by place count }
 {
     match place {
-        Some(place) => place < count,
+        Some(place) => (place as u128) < count,
         None => false,
     }
 }
@@ -34,8 +31,8 @@ fn is_among(place: Option<usize>, count: usize) -> bool
 fn closed_by(
     colocation: Option<usize>,
     order: Option<usize>,
-    colocations: usize,
-    orders: usize,
+    colocations: u128,
+    orders: u128,
 ) -> Option<ModelCause>
     ensures { result ≡ closed_by colocation order colocations orders }
 {
@@ -53,20 +50,20 @@ fn fault_at(
     colocation: Option<usize>,
     order: Option<usize>,
     statements: &[Statement],
-) -> Result<Option<ModelFault>, NoMemory>
-    ensures { IfOk result (λ fault. fault ≡ first_fault (closing_cause colocation order) [] statements.now) }
+) -> Option<ModelFault>
+    ensures { result ≡ first_fault (closing_cause colocation order) [] statements.now }
 {
-    let mut colocations = 0;
-    let mut orders = 0;
+    let mut colocations: u128 = 0;
+    let mut orders: u128 = 0;
     for statement in statements {
-        colocations = sum(colocations, colocation_count(&statement.form))?;
-        orders = sum(orders, order_count(&statement.form))?;
+        colocations += colocation_count(&statement.form) as u128;
+        orders += order_count(&statement.form) as u128;
         if let Some(cause) = closed_by(colocation, order, colocations, orders) {
             let line = statement.line;
-            return Ok(Some(ModelFault::At { line, cause }));
+            return Some(ModelFault::At { line, cause });
         }
     }
-    Ok(None)
+    None
 }
 
 /// The fault of the first statement with which the needs or the steps of a cluster, which some statements say, have a loop.
@@ -75,15 +72,13 @@ pub fn loop_fault(
     cluster: &Cluster,
     statements: &[Statement],
 ) -> Result<Option<ModelFault>, NoMemory>
+    requires few { length cluster.now.leaves ≤ 1000000000 }
     requires joined { (col : Colocation) → Contains cluster.now.colocations col → JoinsLeaves cluster.now col }
     requires ordered { (o : Order) → Contains cluster.now.orders o → OrdersSteps cluster.now o }
     ensures { IfOk result (λ fault. (d : Directory) (leaves : List Leaf) → cluster.now ≡ cluster_of d leaves statements.now
         → fault ≡ first_fault (loop_cause d leaves) [] statements.now) }
 {
-    if cluster.leaves.len() > MOST_LEAVES {
-        return Err(NoMemory);
-    }
     let colocation = colocation_loop(alloc, cluster)?;
     let order = order_loop(alloc, cluster)?;
-    fault_at(colocation, order, statements)
+    Ok(fault_at(colocation, order, statements))
 }

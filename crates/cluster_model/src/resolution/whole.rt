@@ -1,4 +1,4 @@
-ghost use Rattle.std.specs.Prelude.{◌≡◌, [], List, Contains, IfOk};
+ghost use Rattle.std.specs.Prelude.{◌≡◌, ◌≤◌, [], List, length, Contains, IfOk};
 ghost use Rattle.std.specs.Option.{option_or};
 ghost use Rattle.faults.specs.Reading.{Gives, unless};
 ghost use Rattle.cluster_types.specs.declared.leaf.Leaf.{Leaf as LeafOf};
@@ -78,7 +78,8 @@ fn cluster_of(
     leaves: &[Leaf],
     statements: &[Statement],
 ) -> Result<Cluster, NoMemory>
-    ensures { IfOk result (λ cluster. cluster ≡ cluster_of directory.now leaves.now statements.now) }
+    ensures cluster { IfOk result (λ cluster. cluster ≡ cluster_of directory.now leaves.now statements.now) }
+    ensures leaves { IfOk result (λ cluster. cluster.leaves ≡ leaves.now) }
 {
     let (nodes, leaves) = members_of(alloc, leaves, statements)?;
     let (locations, rule_locations) = places_of(alloc, directory, statements)?;
@@ -101,6 +102,7 @@ fn pass(
     statements: &[Statement],
     other: Option<ModelFault>,
 ) -> Result<(), ModelFault>
+    requires few { length cluster.now.leaves ≤ 1000000000 }
     requires joined { (col : ColocationOf) → Contains cluster.now.colocations col → JoinsLeaves cluster.now col }
     requires ordered { (o : OrderOf) → Contains cluster.now.orders o → OrdersSteps cluster.now o }
     ensures { (d : DirectoryOf) (leaves : List LeafOf) → cluster.now ≡ cluster_of d leaves statements.now
@@ -119,10 +121,11 @@ fn resolve_by(
     leaves: &Leaves,
     statements: &[Statement],
 ) -> Result<Cluster, ModelFault>
-    requires { directory.now ≡ directory_of leaves.now statements.now }
+    requires directory { directory.now ≡ directory_of leaves.now statements.now }
+    requires few { length leaves.now.leaves ≤ 1000000000 }
     ensures { Gives (λ cluster. cluster) result (resolution_of leaves.now statements.now) }
 {
-    let checked = first_fault(directory, statements)?;
+    let checked = first_fault(directory, statements);
     let sound = &statements[..checked.sound];
     let cluster = cluster_of(alloc, directory, leaves.leaves.as_slice(), sound)?;
     let passed = pass(alloc, &cluster, sound, checked.fault);
@@ -133,7 +136,7 @@ fn resolve_by(
 /// `order` and `group`). Each list is in the order of the text, and a group's rules stand at its statement: each member after the first must
 /// be where the member before it is, and starts after it. A rule on a clone names its child. On a group, the first of an order and the primary
 /// of a colocation name the last member, and the then, the dependent and a location name the first; with the action stop or demote the first
-/// names the first member and the then the last.
+/// names the first member and the then the last. There are at most 10^9 statements and as many leaves; a text of 16 MiB has fewer.
 ///
 /// A fault is that of the first statement that is at fault: `UnknownName` where a rule names a resource or a node that isn't there;
 /// `NotPromotable` where it promotes or demotes a leaf that isn't promotable; `UnsupportedOrder` where a stop or a demote waits for a start or
@@ -141,6 +144,8 @@ fn resolve_by(
 /// `ColocationLoop` and `OrderLoop` where the rules so far need or await each other in a circle. Where a statement has several causes, the
 /// first in this order counts. `NoMemory` comes when memory runs out.
 pub fn resolve(alloc: Global, crm: &Crm, leaves: &Leaves) -> Result<Cluster, ModelFault>
+    requires statements { length crm.now.statements ≤ 1000000000 }
+    requires leaves { length leaves.now.leaves ≤ 1000000000 }
     ensures { Gives (λ cluster. cluster) result (resolution_of leaves.now crm.now.statements) }
 {
     let statements = crm.statements.as_slice();

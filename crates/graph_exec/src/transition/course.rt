@@ -22,7 +22,8 @@ pub(crate) struct Course<'c> {
 }
 
 impl<'c> Model for Course<'c> {
-    ghost use Rattle.graph_exec.specs.Running.{Running, InFlightFollows, running};
+    ghost use Rattle.graph_exec.specs.Running.{Running};
+    ghost use Rattle.graph_exec.specs.Inner.Running.{InFlightFollows, running};
 
     ghost Value = { Running };
 

@@ -6,7 +6,8 @@ ghost use Rattle.cluster_types.specs.Answering as answering;
 ghost use Rattle.cluster_types.specs.Journals as journals;
 ghost use Rattle.cluster_types.specs.Steps.{ended, in_flight_by_number, count_from_outside};
 ghost use Rattle.cluster_types.specs.Steps as steps;
-ghost use Rattle.graph_exec.specs.Running.{all_gone, going, later};
+ghost use Rattle.graph_exec.specs.Running.{going, later};
+ghost use Rattle.graph_exec.specs.Inner.Running.{all_gone};
 
 use crate::transition::course::Course;
 use crate::transition::meaning::{is_on, is_success};

@@ -7,7 +7,8 @@ ghost use Rattle.cluster_types.specs.Valid.{KeepsLimits};
 ghost use Rattle.state_unpack.specs.CellsKept.{has_few_monitors};
 ghost use Rattle.graph_exec.specs.Flights.{pairs_in_flight};
 ghost use Rattle.graph_exec.specs.Promises.{KeepsPromises};
-ghost use Rattle.graph_exec.specs.Running.{BeginsNow, EndedSilently, IsAnswerRefused, IsRunSettled, IsUnderWay, Took, going};
+ghost use Rattle.graph_exec.specs.Running.{BeginsNow, IsAnswerRefused, IsRunSettled, IsUnderWay, Took, going};
+ghost use Rattle.graph_exec.specs.Inner.Running.{EndedSilently};
 ghost use Rattle.graph_exec.specs.Transitions.{EndsAs, HasGoneToEnd};
 
 use crate::transition::course::{Course, NotBegun, Parts};

@@ -5,7 +5,8 @@ ghost use Rattle.std.specs.List.{list_any};
 ghost use Rattle.cluster_types.specs.Answering.{is_number_of};
 ghost use Rattle.listed.specs.Sets.{is_member};
 ghost use Rattle.graph_exec.specs.Ready.{none_begun, startable};
-ghost use Rattle.graph_exec.specs.Flights.{is_about, is_busy, pairs_in_flight, with_begun, with_ended};
+ghost use Rattle.graph_exec.specs.Flights.{pairs_in_flight};
+ghost use Rattle.graph_exec.specs.Inner.Flights.{is_about, is_busy, with_begun, with_ended};
 
 use crate::transition::waiting::Waiting;
 use cluster_types::{Action, Graph, LeafId, NodeId};
@@ -21,7 +22,8 @@ pub struct InFlight {
 }
 
 impl Model for InFlight {
-    ghost use Rattle.graph_exec.specs.Flights.{InFlightOf, HasFlagOfEach};
+    ghost use Rattle.graph_exec.specs.Flights.{InFlightOf};
+    ghost use Rattle.graph_exec.specs.Inner.Flights.{HasFlagOfEach};
 
     ghost Value = { InFlightOf };
 

@@ -23,7 +23,8 @@ pub struct KnownJournal<'c> {
 }
 
 impl<'c> Model for KnownJournal<'c> {
-    ghost use Rattle.graph_exec.specs.Logs.{JournalOf, IsLogTold, log_journal};
+    ghost use Rattle.graph_exec.specs.Logs.{JournalOf};
+    ghost use Rattle.graph_exec.specs.Inner.Logs.{IsLogTold, log_journal};
 
     ghost Value = { JournalOf };
 

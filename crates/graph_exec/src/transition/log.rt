@@ -4,7 +4,7 @@ ghost use Rattle.std.specs.Prelude.{◌≡◌, ◌<◌, ◌≤◌, ◌+◌, ◌^
 ghost use Rattle.std.specs.Option.{option_or};
 ghost use Rattle.cluster_types.specs.Journals.{moment_of, seconds_of};
 ghost use Rattle.cluster_types.specs.Steps as steps;
-ghost use Rattle.graph_exec.specs.Logs.{log_of, logged};
+ghost use Rattle.graph_exec.specs.Inner.Logs.{log_of, logged};
 ghost use Rattle.state_unpack.specs.Known.{Knows};
 
 use crate::transition::known_journal::KnownJournal;
@@ -32,7 +32,7 @@ pub struct Log<'c> {
 
 impl<'c> Model for Log<'c> {
     ghost use Rattle.std.specs.Prelude.{vec_capacity};
-    ghost use Rattle.graph_exec.specs.Logs.{LogOf, Reflects, log_of};
+    ghost use Rattle.graph_exec.specs.Inner.Logs.{LogOf, Reflects, log_of};
 
     ghost Value = { LogOf };
 

@@ -1,8 +1,8 @@
 ghost use Rattle.std.specs.Prelude.{◌≡◌, ◌<◌, ◌≤◌, ◌+◌, ◌-◌, ◌++◌, ◌∷◌, [], ℕ, true, false, IfOk, length, replicate, slice_index_or, slice_set, vec_len, vec_capacity};
 ghost use Rattle.cluster_types.specs.Graphs.{IsGraph};
 ghost use Rattle.edges.specs.Inner.Clearing.{less_one};
-ghost use Rattle.graph_exec.specs.Freed.{ClearsGates, gates_cleared_then, ready_then};
-ghost use Rattle.edges.specs.Rows.{AreRows};
+ghost use Rattle.graph_exec.specs.Inner.Freed.{ClearsGates, gates_cleared_then, ready_then};
+ghost use Rattle.edges.specs.Rows.{edge_targets};
 
 use crate::transition::roots::first_free;
 use cluster_types::Graph;
@@ -118,7 +118,7 @@ impl Queue {
     fn take(&mut self, graph: &Graph, rows: &Rows, taken: usize)
         requires is_one { taken < length self.old.cleared.items }
         requires graph { IsGraph graph.now }
-        requires rows { AreRows graph.now.edges.positions graph.now.edges.list graph.now.edges.list rows.now.ends.items rows.now.targets.items }
+        requires rows { rows.now ≡ edge_targets graph.now.edges.positions graph.now.edges.list }
         requires room { graph.now.edges.positions ≤ vec_capacity self.old.cleared }
         requires clears { ClearsGates graph.now self.old.begun.items self.old.succeeded.items self.old.ready taken [] self.old.left.items self.old.cleared.items }
         ensures clears { ClearsGates graph.now self.new.begun.items self.new.succeeded.items self.new.ready (taken + 1) [] self.new.left.items self.new.cleared.items }
@@ -136,7 +136,7 @@ impl Queue {
     /// Counts off the edges from all cleared positions from this place on, and from those that are cleared by it.
     pub fn drain(&mut self, graph: &Graph, rows: &Rows, from: usize)
         requires graph { IsGraph graph.now }
-        requires rows { AreRows graph.now.edges.positions graph.now.edges.list graph.now.edges.list rows.now.ends.items rows.now.targets.items }
+        requires rows { rows.now ≡ edge_targets graph.now.edges.positions graph.now.edges.list }
         requires room { graph.now.edges.positions ≤ vec_capacity self.old.cleared }
         requires clears { ClearsGates graph.now self.old.begun.items self.old.succeeded.items self.old.ready from [] self.old.left.items self.old.cleared.items }
         ensures clears { ClearsGates graph.now self.new.begun.items self.new.succeeded.items self.new.ready (length self.new.cleared.items) [] self.new.left.items self.new.cleared.items }

@@ -3,7 +3,8 @@
 ghost use Rattle.std.specs.Prelude.{◌≡◌, ◌++◌, true, OnOk, OnErr, IfErr};
 ghost use Rattle.cluster_types.specs.Answering.{applies_after};
 ghost use Rattle.cluster_types.specs.Steps.{IsWaiting, answer_events, in_flight_by_number, journal, count_from_outside};
-ghost use Rattle.graph_exec.specs.Running.{EndedSilently, IsAnswerRefused, Took, going, later};
+ghost use Rattle.graph_exec.specs.Running.{IsAnswerRefused, Took, going, later};
+ghost use Rattle.graph_exec.specs.Inner.Running.{EndedSilently};
 
 use crate::transition::course::Course;
 use crate::transition::meaning::silent_code;

@@ -20,14 +20,14 @@ pub struct Waiting {
 
 impl Model for Waiting {
     ghost use Rattle.std.specs.Prelude.{vec_capacity};
-    ghost use Rattle.graph_exec.specs.Freed.{ClearingRests};
+    ghost use Rattle.graph_exec.specs.Inner.Freed.{ClearingRests};
     ghost use Rattle.graph_exec.specs.Ready.{Progress};
 
     ghost Value = { Progress };
 
     ghost view = { λ w. record { graph = w.graph; begun = w.queue.begun.items; succeeded = w.queue.succeeded.items } };
 
-    ghost invariant = { λ w. ClearingRests w.graph w.rows.ends.items w.rows.targets.items w.queue.begun.items w.queue.succeeded.items w.queue.ready w.queue.left.items
+    ghost invariant = { λ w. ClearingRests w.graph w.rows w.queue.begun.items w.queue.succeeded.items w.queue.ready w.queue.left.items
         w.queue.cleared.items (vec_capacity w.queue.cleared) };
 }
 

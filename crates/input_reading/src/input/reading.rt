@@ -63,20 +63,24 @@ pub(crate) struct Configuration {
 fn lines_of(alloc: Global, text: Vec<u8>) -> Result<Vec<Line>, InputFault>
     requires { length text.items ≤ most_bytes }
     ensures lines { Gives (λ lines. lines.items) result (faulting cause.Words (reads text.items)) }
-    ensures few { IfOk result (λ lines. length lines.items < 2 ^ 32) }
+    ensures few { IfOk result (λ lines. length lines.items ≤ most_bytes) }
     ensures numbers { IfOk result (λ lines. line_behind lines.items < 2 ^ 32) }
 {
     logical_lines(alloc, &text).map_err(|fault| fault.map(InputCause::Words))
 }
 
+#[tactic(auto, using(crate::proofs::FewLines::few_stated))]
 fn statements_in(alloc: Global, lines: &[Line]) -> Result<Crm, InputFault>
-    ensures { Gives (λ crm. crm) result (faulting cause.Statements (statements_of lines.now)) }
+    ensures crm { Gives (λ crm. crm) result (faulting cause.Statements (statements_of lines.now)) }
+    ensures few { IfOk result (λ crm. length crm.statements ≤ length lines.now) }
 {
     parse(alloc, lines).map_err(|fault| fault.map(InputCause::Statements))
 }
 
 fn leaves_in(alloc: Global, crm: &Crm) -> Result<Leaves, InputFault>
-    ensures { Gives (λ leaves. leaves) result (faulting cause.Leaves (expansion_of crm.now.statements)) }
+    requires { length crm.now.statements ≤ most_bytes }
+    ensures leaves { Gives (λ leaves. leaves) result (faulting cause.Leaves (expansion_of crm.now.statements)) }
+    ensures few { IfOk result (λ leaves. length leaves.leaves ≤ length crm.now.statements) }
 {
     expand(alloc, crm).map_err(|fault| fault.map(InputCause::Leaves))
 }
@@ -92,6 +96,8 @@ pub(crate) fn configuration_of(
     ensures given { Gives (λ found. found) result (configuration_of (sections_by last) text.items) }
     ensures stated { IfOk result (λ found. AreStated found.crm) }
     ensures leaves { IfOk result (λ found. expansion_of found.crm.statements ≡ Ok found.leaves) }
+    ensures few { IfOk result (λ found. length found.crm.statements ≤ most_bytes) }
+    ensures few_leaves { IfOk result (λ found. length found.leaves.leaves ≤ most_bytes) }
     ensures results { IfOk result (λ found. found.marks.results_at ≤ length found.lines) }
     ensures end { IfOk result (λ found. found.marks.end ≤ length found.lines) }
     ensures numbers { IfOk result (λ found. line_behind found.lines < 2 ^ 32) }
@@ -222,6 +228,8 @@ fn with_cluster(alloc: Global, found: Configuration, cluster: Cluster) -> Result
 }
 
 fn resolved(alloc: Global, crm: &Crm, leaves: &Leaves) -> Result<Cluster, InputFault>
+    requires few { length crm.now.statements ≤ most_bytes }
+    requires few_leaves { length leaves.now.leaves ≤ most_bytes }
     ensures { Gives (λ cluster. cluster) result (faulting cause.Cluster (resolution_of leaves.now crm.now.statements)) }
 {
     resolve(alloc, crm, leaves).map_err(|fault| fault.map(InputCause::Cluster))
@@ -231,6 +239,8 @@ fn resolved(alloc: Global, crm: &Crm, leaves: &Leaves) -> Result<Cluster, InputF
 pub(crate) fn cluster_in(alloc: Global, found: &Configuration) -> Result<Cluster, InputFault>
     requires stated { AreStated found.now.crm }
     requires leaves { expansion_of found.now.crm.statements ≡ Ok found.now.leaves }
+    requires few { length found.now.crm.statements ≤ most_bytes }
+    requires few_leaves { length found.now.leaves.leaves ≤ most_bytes }
     ensures cluster { Gives (λ cluster. cluster) result (faulting cause.Cluster (resolution_of found.now.leaves found.now.crm.statements)) }
     ensures valid { IfOk result (λ cluster. IsValid cluster) }
 {

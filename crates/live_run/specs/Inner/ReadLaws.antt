@@ -6,7 +6,8 @@ use Rattle.cluster_io.proofs.Pieces.{Takes-then}
 use Rattle.cluster_types.specs.declared.cluster.Cluster.{Cluster}
 use Rattle.crm_lex.specs.RawLines.{raw_lines}
 use Rattle.live_run.specs.Coming.{Coming, Lines}
-use Rattle.live_run.specs.Followed.{AreNear, EndsInOne, LastLineSays, HasRead, IsStoppedBy, StandFirst, bytes_of, count_said, results_first, said_by}
+use Rattle.live_run.specs.Followed.{AreNear, NoneOrLastSays, LastLineSays, HasRead, IsStoppedBy, bytes_of, count_said, results_first, said_by}
+use Rattle.run_safety.specs.Followed.{IsFront}
 use Rattle.live_run.specs.Inner.ReadSteps.{HasPassed, ReadUntil}
 use Rattle.live_run.specs.declared.came.Came.{Came}
 use Rattle.live_run.specs.declared.came.Came.TheVariants as came
@@ -99,22 +100,22 @@ module _ (c : Cluster) where
           fewer = omega (arith, front, whole, fewer);
         }
 
-    pub ends_then : (ys : List (List (List ℕ))) → EndsInOne c a xs → EndsInOne c b ys → EndsInOne c a (xs ++ ys)
+    pub ends_then : (ys : List (List (List ℕ))) → NoneOrLastSays c a xs → NoneOrLastSays c b ys → NoneOrLastSays c a (xs ++ ys)
     ends_then ys first (inl none) =
-        subst (λ (t : List (List (List ℕ))). EndsInOne c a t) (sym (ap (λ (t : List (List (List ℕ))). xs ++ t) none ∙ append-nil xs)) first
+        subst (λ (t : List (List (List ℕ))). NoneOrLastSays c a t) (sym (ap (λ (t : List (List (List ℕ))). xs ++ t) none ∙ append-nil xs)) first
     ends_then ys first (inr last) = inr (last_then ys last)
 
-    first_then : (ys : List (List (List ℕ))) → IfSome y (λ left. StandFirst ys (raw_lines (b.reading.held ++ left)))
-        → IfSome x (λ left. StandFirst (xs ++ ys) (raw_lines (a.reading.held ++ left)))
+    first_then : (ys : List (List (List ℕ))) → IfSome y (λ left. IsFront ys (raw_lines (b.reading.held ++ left)))
+        → IfSome x (λ left. IsFront (xs ++ ys) (raw_lines (a.reading.held ++ left)))
     first_then ys first = by x y r.cut first
       where
         by : (u v : Option (List ℕ)) → option_map (λ left. raw_lines (a.reading.held ++ left)) u ≡ option_map (λ left. xs ++ raw_lines (b.reading.held ++ left)) v
-            → IfSome v (λ left. StandFirst ys (raw_lines (b.reading.held ++ left))) → IfSome u (λ left. StandFirst (xs ++ ys) (raw_lines (a.reading.held ++ left)))
+            → IfSome v (λ left. IsFront ys (raw_lines (b.reading.held ++ left))) → IfSome u (λ left. IsFront (xs ++ ys) (raw_lines (a.reading.held ++ left)))
         by None v e f = tt
         by (Some left) None e f = cc
         by (Some left) (Some after) e f =
             let same : raw_lines (a.reading.held ++ left) ≡ xs ++ raw_lines (b.reading.held ++ after) = cc in
-            record { others = f.others; joined = same ∙ (ap (λ (t : List (List (List ℕ))). xs ++ t) f.joined ∙ sym (append_assoc xs ys f.others)) }
+            record { more = f.more; joined = same ∙ (ap (λ (t : List (List (List ℕ))). xs ++ t) f.joined ∙ sym (append_assoc xs ys f.more)) }
 
     pub stopped_then : (z : Option (List ℕ)) (more : List ResultLine) (w : LineStop) → AreNear a xs bytes → IsStoppedBy c b y z more w → IsStoppedBy c a x z (given ++ more) w
     stopped_then z more w near s = record {

@@ -4,7 +4,7 @@ use Rattle.std.specs.Prelude.{◌≡◌, ℕ, ◌<◌, ◌==◌, ◌&&◌, Bool,
 use Rattle.std.specs.Option.{option_map_or}
 use Rattle.edges.specs.declared.edge.Edge.{Edge}
 use Rattle.edges.specs.Loops.{EndsWithin}
-use Rattle.edges.specs.Rows.{AreRows}
+use Rattle.edges.specs.Rows.{edge_targets}
 use Rattle.placement.specs.declared.order.queue.Queue.{Queue}
 
 -- how many edges lead to the position from others than were taken
@@ -46,6 +46,6 @@ IsNextPlace ready place = MatchOption place ((p : ℕ) → p < length ready → 
 pub record IsQueue (edges : List Edge) (positions : ℕ) (q : Queue) : Type 0 where
   pub ends : EndsWithin positions edges
   pub inside : (x : ℕ) → Contains q.order.items x → x < positions
-  pub rows : AreRows positions edges edges q.rows.ends.items q.rows.targets.items
+  pub rows : q.rows ≡ edge_targets positions edges
   pub places : ArePlaces q.order.items q.places.items
   pub waits : Waits edges positions q.order.items q.places.items q.made.items q.counts.items q.ready

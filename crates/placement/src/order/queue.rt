@@ -5,7 +5,7 @@ ghost use Rattle.std.specs.List.{list_any};
 ghost use Rattle.edges.specs.declared.edge.Edge.{Edge as EdgeOf};
 ghost use Rattle.edges.specs.Loops.{EndsWithin};
 ghost use Rattle.placement.specs.Inner.Queueing as spec;
-ghost use Rattle.edges.specs.Rows.{AreRows, edges_at};
+ghost use Rattle.edges.specs.Rows.{edge_targets, edges_at};
 
 use edges::{Edge, Rows, Side, count_ends};
 use faults::with;
@@ -113,7 +113,7 @@ fn places_of(alloc: Global, positions: u32, order: &[u32]) -> Result<Vec<Option<
 /// Where the edges from each position lead, and how many lead to it.
 fn held_by(alloc: Global, positions: u32, edges: &[Edge]) -> Result<(Rows, Vec<usize>), AllocError>
     requires { EndsWithin positions edges.now }
-    ensures rows { IfOk result (λ held. AreRows positions edges.now edges.now held.0.ends.items held.0.targets.items) }
+    ensures rows { IfOk result (λ held. held.0 ≡ edge_targets positions edges.now) }
     ensures size { IfOk result (λ held. length held.1.items ≡ positions) }
     ensures counted { IfOk result (λ held. (x : ℕ) → x < positions → slice_index_or held.1.items x 0 ≡ edges_at Side.After edges.now x) }
 {

@@ -1,11 +1,12 @@
-use Rattle.std.proofs.Common.{arith, ◌≡◌, ◌<◌, ◌+◌, List, length, slice_index_or, ◌∙◌, ℕ, take, refl}
+use Rattle.std.proofs.Common.{rules, arith, ◌≡◌, ◌<◌, ◌+◌, List, length, slice_index_or, ◌∙◌, ℕ, take, take_all, subst, refl}
 use Rattle.std.proofs.lemmas.List.{get_or_read}
 use Rattle.edges.specs.declared.edge.Edge.{Edge}
 use Rattle.edges.specs.Loops.{EndsWithin}
 use Rattle.edges.specs.declared.side.Side.TheVariants.{Before}
-use Rattle.edges.specs.Rows.{AreRows, edges_at, edges_below, no_edge}
+use Rattle.edges.specs.Rows.{edges_at, no_edge}
+use Rattle.edges.specs.Inner.Rows.{AreRows, edges_below}
 use Rattle.edges.proofs.Counted.{end_within}
-use Rattle.edges.proofs.Filled.{is_place, place_within, one_filled}
+use Rattle.edges.proofs.Filled.{is_place, place_within, one_filled, rows_are, rows_stand}
 use Rattle.edges.proofs.rows.Rows.new.Goals as goal
 
 -- what is known of the place that an edge's target takes
@@ -73,3 +74,17 @@ loop-edge-preserved c =
     c.loop-edge.targets.items low c.loop-edge.invariant (c.index-place.result.now + 1) (slice_index_or c.args.edges.now c.loop-edge.edge-index no_edge).after
     (omega arith) refl in
     rw (← is) at more
+
+pub invariant_of-result : goal.invariant_of-result
+invariant_of-result c =
+    let all : take c.loop-edge.edge-index c.args.edges.now ≡ c.args.edges.now = take_all c.loop-edge.edge-index c.args.edges.now (search rules) in
+    let filled : AreRows c.args.positions c.args.edges.now c.args.edges.now c.loop-edge.ends.items c.loop-edge.targets.items
+    = subst (λ (es : List Edge). AreRows c.args.positions c.args.edges.now es c.loop-edge.ends.items c.loop-edge.targets.items) all c.loop-edge.invariant in
+    rows_stand c.args.positions c.args.edges.now c.loop-edge.ends.items c.loop-edge.targets.items filled
+
+pub returns : goal.returns
+returns c =
+    let all : take c.loop-edge.edge-index c.args.edges.now ≡ c.args.edges.now = take_all c.loop-edge.edge-index c.args.edges.now (search rules) in
+    let filled : AreRows c.args.positions c.args.edges.now c.args.edges.now c.loop-edge.ends.items c.loop-edge.targets.items
+    = subst (λ (es : List Edge). AreRows c.args.positions c.args.edges.now es c.loop-edge.ends.items c.loop-edge.targets.items) all c.loop-edge.invariant in
+    rows_are c.args.positions c.args.edges.now c.loop-edge.ends.items c.loop-edge.targets.items filled

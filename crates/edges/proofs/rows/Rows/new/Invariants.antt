@@ -1,5 +1,5 @@
 use Rattle.std.proofs.Common.{take}
-use Rattle.edges.specs.Rows.{AreRows}
+use Rattle.edges.specs.Inner.Rows.{AreRows}
 use Rattle.edges.proofs.rows.Rows.new.Given as goal
 
 abbrev pub invariant-loop-edge : goal.invariant-loop-edge

@@ -10,6 +10,6 @@ returns-clause-shows c = λ w before.
     let of = s.cluster.now in
     let shows = rw (← c.self.view_is) at before in
     rw (← c.self.view_is)
-    (shows_changed of s.nodes.items s.cells.items s.rising s.number s.state s.given w shows s.nodes.items c.act.new.cells.items s.rising (s.given + 1)
+    (shows_changed of s.nodes.items s.cells.items s.rising s.number s.state s.faults w shows s.nodes.items c.act.new.cells.items s.rising (s.faults + 1)
     (after_end of w fate.DoneBadly c.args.action) shows.nodes (c.act.ensures.held w.cells shows.cells)
-    (done_alone of s.nodes.items s.cells.items s.rising s.number s.state s.given w shows c.args.action) refl (ap (λ g. g + 1) shows.given))
+    (done_alone of s.nodes.items s.cells.items s.rising s.number s.state s.faults w shows c.args.action) refl (ap (λ g. g + 1) shows.faults))

@@ -17,6 +17,6 @@ returns-clause-shows c = λ w before.
     let of = s.cluster.now in
     let shows = rw (← c.self.view_is) at before in
     rw (← c.self.view_is)
-    (shows_changed of s.nodes.items s.cells.items s.rising s.number s.state s.given w shows c.fence.new.nodes.items c.act.new.cells.items s.rising s.given
+    (shows_changed of s.nodes.items s.cells.items s.rising s.number s.state s.faults w shows c.fence.new.nodes.items c.act.new.cells.items s.rising s.faults
     (after_end of w fate.True c.args.action) (c.fence.ensures.held (length of.nodes) w.nodes shows.nodes) (c.act.ensures.held w.cells shows.cells)
-    (done_alone of s.nodes.items s.cells.items s.rising s.number s.state s.given w shows c.args.action) refl shows.given)
+    (done_alone of s.nodes.items s.cells.items s.rising s.number s.state s.faults w shows c.args.action) refl shows.faults)

@@ -10,6 +10,6 @@ returns-clause-shows c = λ w before.
     let of = s.cluster.now in
     let shows = rw (← c.self.view_is) at before in
     rw (← c.self.view_is)
-    (shows_changed of s.nodes.items s.cells.items s.rising s.number s.state s.given w shows s.nodes.items c.undo.new.cells.items s.rising (s.given + 1)
+    (shows_changed of s.nodes.items s.cells.items s.rising s.number s.state s.faults w shows s.nodes.items c.undo.new.cells.items s.rising (s.faults + 1)
     (after_end of w fate.Undone c.args.action) shows.nodes (c.undo.ensures.held w.cells shows.cells)
-    (undone_alone of s.nodes.items s.cells.items s.rising s.number s.state s.given w shows c.args.action) refl (ap (λ g. g + 1) shows.given))
+    (undone_alone of s.nodes.items s.cells.items s.rising s.number s.state s.faults w shows c.args.action) refl (ap (λ g. g + 1) shows.faults))

@@ -8,6 +8,6 @@ returns-clause-shows c = λ w before.
     let s = c.self.inside in
     let of = s.cluster.now in
     let shows = rw (← c.self.view_is) at before in
-    shows_changed of s.nodes.items s.cells.items s.rising s.number s.state s.given w shows c.set_node.new.nodes.items c.clear_node.new.cells.items s.rising (s.given + 1)
+    shows_changed of s.nodes.items s.cells.items s.rising s.number s.state s.faults w shows c.set_node.new.nodes.items c.clear_node.new.cells.items s.rising (s.faults + 1)
     (after_joining of w c.args.node) (c.set_node.ensures.held (length of.nodes) w.nodes shows.nodes) (c.clear_node.ensures.held w.cells shows.cells)
-    (joined_alone of s.nodes.items s.cells.items s.rising s.number s.state s.given w shows c.args.node) refl (ap (λ g. g + 1) shows.given)
+    (joined_alone of s.nodes.items s.cells.items s.rising s.number s.state s.faults w shows c.args.node) refl (ap (λ g. g + 1) shows.faults)

@@ -9,7 +9,7 @@ returns-clause-shows c = λ w before.
     let of = s.cluster.now in
     let shows = rw (← c.self.view_is) at before in
     rw (← c.self.view_is)
-    (shows_changed of s.nodes.items s.cells.items s.rising s.number s.state s.given w shows c.set_node.new.nodes.items c.leave_cells.new.cells.items s.rising (s.given + 1)
+    (shows_changed of s.nodes.items s.cells.items s.rising s.number s.state s.faults w shows c.set_node.new.nodes.items c.leave_cells.new.cells.items s.rising (s.faults + 1)
     (after_leaving of w c.args.node) (rw c.left_behind.ensures at (c.set_node.ensures.held (length of.nodes) w.nodes shows.nodes))
-    (c.leave_cells.ensures.held w.cells shows.cells) (left_alone of s.nodes.items s.cells.items s.rising s.number s.state s.given w shows c.args.node) refl
-    (ap (λ g. g + 1) shows.given))
+    (c.leave_cells.ensures.held w.cells shows.cells) (left_alone of s.nodes.items s.cells.items s.rising s.number s.state s.faults w shows c.args.node) refl
+    (ap (λ g. g + 1) shows.faults))

@@ -11,6 +11,6 @@ returns-clause-shows c = λ w before.
     let shows = rw (← c.self.view_is) at before in
     let calm = rw (← c.self.view_is) at c.requires.calm in
     rw (← c.self.view_is)
-    (shows_changed of s.nodes.items s.cells.items s.rising s.number s.state s.given w shows s.nodes.items c.give_up-self-inside.new.cells.items c.give_up-self-inside.result (s.given + 1)
+    (shows_changed of s.nodes.items s.cells.items s.rising s.number s.state s.faults w shows s.nodes.items c.give_up-self-inside.new.cells.items c.give_up-self-inside.result (s.faults + 1)
     (after_end of w fate.TimedOut c.args.action) shows.nodes (c.give_up-self-inside.ensures.held w.cells shows.cells)
-    (c.give_up-self-inside.ensures.alone w.cells shows.cells (rw calm at shows.alone)) refl (ap (λ g. g + 1) shows.given))
+    (c.give_up-self-inside.ensures.alone w.cells shows.cells (rw calm at shows.alone)) refl (ap (λ g. g + 1) shows.faults))

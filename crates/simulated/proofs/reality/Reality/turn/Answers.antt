@@ -43,8 +43,8 @@ returns-in-Some-clause-shows c = λ w s.
 pub returns-in-Some-clause-may : goal.returns-in-Some-clause-may
 returns-in-Some-clause-may c =
     let low = c.in-Some.ensures.low in
-    let early = low_early c.roll-first.new.self.given c.roll-first.result low c.roll-first.ensures.early in
-    rw c.in-Some.ensures.given (of_node_may c.args.count c.roll-first.new.self.given c.in-Some.turn c.in-Some.ensures.node early)
+    let early = low_early c.roll-first.new.self.faults c.roll-first.result low c.roll-first.ensures.early in
+    rw c.in-Some.ensures.faults (of_node_may c.args.count c.roll-first.new.self.faults c.in-Some.turn c.in-Some.ensures.node early)
 
 pub returns-in-Some-clause-calm : goal.returns-in-Some-clause-calm
 returns-in-Some-clause-calm c = c.in-Some.ensures.rising ∙ (c.roll-first.ensures.rising ∙ c.settle.ensures.none)
@@ -94,8 +94,8 @@ returns-in-None-clause-shows c = λ w s.
 
 pub returns-in-None-clause-may : goal.returns-in-None-clause-may
 returns-in-None-clause-may c =
-    rw (c.draw-place.ensures.given, c.in-None.ensures.given)
-    (ends_may c.args.count c.roll-first.new.self.given c.roll-first.result c.draw-place.result c.fate_by-fate.result c.fate_by-fate.ensures c.draw-place.ensures.low
+    rw (c.draw-place.ensures.faults, c.in-None.ensures.faults)
+    (ends_may c.args.count c.roll-first.new.self.faults c.roll-first.result c.draw-place.result c.fate_by-fate.result c.fate_by-fate.ensures c.draw-place.ensures.low
     c.roll-first.ensures.early)
 
 pub returns-in-None-clause-calm : goal.returns-in-None-clause-calm

@@ -1,7 +1,8 @@
 use Rattle.std.proofs.Common.{◌∙◌, sym, ℕ}
 use Rattle.std.proofs.lemmas.Map.Keys.{any_passes_from_place}
 use Rattle.cluster_types.specs.declared.journal.Action.{Action}
-use Rattle.graph_exec.specs.Flights.{is_about, pairs_in_flight}
+use Rattle.graph_exec.specs.Flights.{pairs_in_flight}
+use Rattle.graph_exec.specs.Inner.Flights.{is_about}
 use Rattle.graph_exec.proofs.Pairs.{passes_not_yet}
 use Rattle.graph_exec.proofs.transition.flight.InFlight.is_busy.Goals as goal
 

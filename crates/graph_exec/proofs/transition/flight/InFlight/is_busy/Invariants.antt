@@ -1,5 +1,6 @@
 use Rattle.std.proofs.Common.{◌≡◌, false, take}
-use Rattle.graph_exec.specs.Flights.{is_busy, pairs_in_flight}
+use Rattle.graph_exec.specs.Flights.{pairs_in_flight}
+use Rattle.graph_exec.specs.Inner.Flights.{is_busy}
 use Rattle.graph_exec.proofs.transition.flight.InFlight.is_busy.Given as goal
 
 abbrev pub invariant-loop-place : goal.invariant-loop-place

@@ -1,37 +1,20 @@
-use Rattle.std.proofs.Common.{arith, ◌≡◌, ◌<◌, ◌+◌, ◌∷◌, length, drop, slice_index_or, ◌∙◌}
+use Rattle.std.proofs.Common.{arith, ◌≡◌, ◌<◌, ◌+◌, ◌∷◌, length, drop, slice_index_or, ap, ◌∙◌}
 use Rattle.std.proofs.lemmas.List.{get_or_read, drop_more}
 use Rattle.edges.specs.Rows.{edge_targets_of}
 use Rattle.edges.proofs.Members.{has_at}
-use Rattle.edges.proofs.Filled.{row_is, row_order, row_room}
+use Rattle.edges.proofs.Filled.{target_lists, targets_at}
 use Rattle.graph_exec.proofs.QueueSteps.{taken_next, counted_off, p_room}
 use Rattle.graph_exec.proofs.transition.queue.Queue.take.Goals as goal
 
-pub row-target-items-requires-clause-within : goal.row-target-items-requires-clause-within
-row-target-items-requires-clause-within c =
+pub row-target-items-requires : goal.row-target-items-requires
+row-target-items-requires c =
     let cleared = c.args.self.now.cleared.items in
     let read : c.index-position.result.now ≡ slice_index_or cleared c.args.taken 0
     = get_or_read cleared c.args.taken c.index-position.result.now c.requires.is_one c.index-position.ensures 0 in
     let within = c.requires.clears.below (slice_index_or cleared c.args.taken 0) (has_at cleared c.args.taken c.requires.is_one) in
-    let size = c.requires.rows.size in
+    let size : length c.args.rows.now ≡ c.args.graph.now.edges.positions
+    = ap length c.requires.rows ∙ target_lists c.args.graph.now.edges.positions c.args.graph.now.edges.list in
     omega arith
-
-pub row-target-items-requires-clause-order : goal.row-target-items-requires-clause-order
-row-target-items-requires-clause-order c =
-    let cleared = c.args.self.now.cleared.items in
-    let read : c.index-position.result.now ≡ slice_index_or cleared c.args.taken 0
-    = get_or_read cleared c.args.taken c.index-position.result.now c.requires.is_one c.index-position.ensures 0 in
-    let within = c.requires.clears.below (slice_index_or cleared c.args.taken 0) (has_at cleared c.args.taken c.requires.is_one) in
-    row_order c.args.graph.now.edges.positions c.args.graph.now.edges.list c.args.rows.now.ends.items c.args.rows.now.targets.items c.requires.rows
-    c.index-position.result.now (omega arith)
-
-pub row-target-items-requires-clause-room : goal.row-target-items-requires-clause-room
-row-target-items-requires-clause-room c =
-    let cleared = c.args.self.now.cleared.items in
-    let read : c.index-position.result.now ≡ slice_index_or cleared c.args.taken 0
-    = get_or_read cleared c.args.taken c.index-position.result.now c.requires.is_one c.index-position.ensures 0 in
-    let within = c.requires.clears.below (slice_index_or cleared c.args.taken 0) (has_at cleared c.args.taken c.requires.is_one) in
-    row_room c.args.graph.now.edges.positions c.args.graph.now.edges.list c.args.rows.now.ends.items c.args.rows.now.targets.items c.requires.rows
-    c.index-position.result.now (omega arith)
 
 pub loop-target-init : goal.loop-target-init
 loop-target-init c =
@@ -39,10 +22,9 @@ loop-target-init c =
     let read : c.index-position.result.now ≡ slice_index_or cleared c.args.taken 0
     = get_or_read cleared c.args.taken c.index-position.result.now c.requires.is_one c.index-position.ensures 0 in
     let within = c.requires.clears.below (slice_index_or cleared c.args.taken 0) (has_at cleared c.args.taken c.requires.is_one) in
-    let is = row_is c.args.graph.now.edges.positions c.args.graph.now.edges.list c.args.rows.now.ends.items c.args.rows.now.targets.items
-    c.requires.rows (slice_index_or cleared c.args.taken 0) within in
+    let is = targets_at c.args.graph.now.edges.positions c.args.graph.now.edges.list (slice_index_or cleared c.args.taken 0) within in
     let row : c.row-target-items.result.now ≡ edge_targets_of c.args.graph.now.edges.list (slice_index_or cleared c.args.taken 0)
-    = (rw read at c.row-target-items.ensures) ∙ is in
+    = (rw (read, c.requires.rows) at c.row-target-items.ensures) ∙ is in
     let next = taken_next c.args.graph.now c.args.self.now.begun.items c.args.self.now.succeeded.items c.args.self.now.ready c.args.taken
     c.args.self.now.left.items cleared c.requires.is_one c.requires.clears c.requires.graph in
     record { clears = rw row next; begun = cc; succeeded = cc; room = cc }

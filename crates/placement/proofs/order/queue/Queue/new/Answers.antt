@@ -2,7 +2,7 @@ use Rattle.std.proofs.Common.{rules, arith, ◌≡◌, ◌<◌, ◌&&◌, ◌||�
 use Rattle.std.specs.List.{list_any}
 use Rattle.std.proofs.lemmas.List.{length-replicate}
 use Rattle.std.proofs.lemmas.Result.{IfOk-at_ok}
-use Rattle.edges.specs.Rows.{AreRows}
+use Rattle.edges.specs.Rows.{edge_targets}
 use Rattle.placement.specs.Inner.Queueing.{ArePlaces, Waits, held, has_place, is_free}
 use Rattle.placement.proofs.HeldCounts.{counted-first, none-ready}
 use Rattle.placement.proofs.QueueSteps.{all-ready}
@@ -65,7 +65,7 @@ returns-clause-queue c =
     let filled = IfOk-at_ok _ c.in_ok-order.ensures.1 c.places_of-places.ensures.there in
     let are : ArePlaces order places = subst (λ (xs : List ℕ). ArePlaces xs places) c.deref.ensures.value
     (subst (λ v. ArePlaces c.deref.result.now v.items) (sym places_kept) filled) in
-    let rows = subst (λ v. AreRows positions edges edges v.ends.items v.targets.items) (sym rows_kept) (IfOk-at_ok _ c.in_ok-order-2.ensures.1 c.held_by-held.ensures.rows) in
+    let rows : last.rows ≡ edge_targets positions edges = rows_kept ∙ IfOk-at_ok _ c.in_ok-order-2.ensures.1 c.held_by-held.ensures.rows in
     let counts_size = ap (λ v. length v.items) counts_kept ∙ IfOk-at_ok _ c.in_ok-order-2.ensures.1 c.held_by-held.ensures.size in
     let counted = IfOk-at_ok _ c.in_ok-order-2.ensures.1 c.held_by-held.ensures.counted in
     let test : List Bool → List ℕ → List (Option ℕ) → ℕ → ℕ → Bool = λ ms cs ps k y. is_free ms cs y && has_place ps y k in

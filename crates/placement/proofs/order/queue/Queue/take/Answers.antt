@@ -1,9 +1,9 @@
-use Rattle.std.proofs.Common.{arith, ◌≡◌, ◌<◌, ◌≤◌, ◌==◌, ◌+◌, ◌-◌, ◌&&◌, ◌||◌, ℕ, Bool, Option, List, ◌∷◌, None, false, true, length, count_by, slice_index_or, slice_set, Contains, sym, ap, subst, ◌∙◌}
+use Rattle.std.proofs.Common.{arith, ◌≡◌, ◌<◌, ◌≤◌, ◌==◌, ◌+◌, ◌-◌, ◌&&◌, ◌||◌, ℕ, Bool, Option, List, [], None, false, true, length, count_by, slice_index_or, slice_set, Contains, sym, ap, subst, ◌∙◌}
 use Rattle.std.specs.List.{list_any}
 use Rattle.std.proofs.lemmas.List.{get_or_read, length-set}
-use Rattle.edges.specs.Rows.{row_of, edge_targets_of}
+use Rattle.edges.specs.Rows.{edge_targets_of}
 use Rattle.placement.specs.Inner.Queueing.{Waits, has_place, is_free}
-use Rattle.placement.proofs.QueueNext.{few, in-made, in-order, in-place, in-rows, open-yet, row-is, row-low, with-room}
+use Rattle.placement.proofs.QueueNext.{few, in-made, in-order, in-rows, open-yet, row-is, row-low}
 use Rattle.placement.proofs.HeldCounts.{counted-next}
 use Rattle.placement.proofs.QueueSteps.{readied-next}
 use Rattle.placement.proofs.order.queue.Queue.take.Goals as goal
@@ -17,31 +17,13 @@ index_mut-requires c =
     let made = in-made c.requires.0 c.requires.1 q c.requires.2 p c.in_ok-place.ensures in
     omega arith
 
-pub row-row-requires-clause-within : goal.row-row-requires-clause-within
-row-row-requires-clause-within c =
+pub row-row-requires : goal.row-row-requires
+row-row-requires c =
     let q = c.args.self.now in
     let p = c.in_ok-place.place in
     let low = in-order c.requires.0 c.requires.1 q c.requires.2 p c.in_ok-place.ensures in
     let read = get_or_read q.order.items p c.index-position.result.now low c.index-position.ensures 0 in
-    subst (λ x. x < length q.rows.ends.items) (sym read) (in-rows c.requires.0 c.requires.1 q c.requires.2 p c.in_ok-place.ensures)
-
-pub row-row-requires-clause-order : goal.row-row-requires-clause-order
-row-row-requires-clause-order c =
-    let q = c.args.self.now in
-    let p = c.in_ok-place.place in
-    let low = in-order c.requires.0 c.requires.1 q c.requires.2 p c.in_ok-place.ensures in
-    let read = get_or_read q.order.items p c.index-position.result.now low c.index-position.ensures 0 in
-    subst (λ x. slice_index_or (0 ∷ q.rows.ends.items) x 0 ≤ slice_index_or q.rows.ends.items x 0) (sym read)
-    (in-place c.requires.0 c.requires.1 q c.requires.2 p c.in_ok-place.ensures)
-
-pub row-row-requires-clause-room : goal.row-row-requires-clause-room
-row-row-requires-clause-room c =
-    let q = c.args.self.now in
-    let p = c.in_ok-place.place in
-    let low = in-order c.requires.0 c.requires.1 q c.requires.2 p c.in_ok-place.ensures in
-    let read = get_or_read q.order.items p c.index-position.result.now low c.index-position.ensures 0 in
-    subst (λ x. slice_index_or q.rows.ends.items x 0 ≤ length q.rows.targets.items) (sym read)
-    (with-room c.requires.0 c.requires.1 q c.requires.2 p c.in_ok-place.ensures)
+    subst (λ x. x < length q.rows) (sym read) (in-rows c.requires.0 c.requires.1 q c.requires.2 p c.in_ok-place.ensures)
 
 pub count_off-requires : goal.count_off-requires
 count_off-requires c =
@@ -50,7 +32,7 @@ count_off-requires c =
     let low = in-order c.requires.0 c.requires.1 q c.requires.2 p c.in_ok-place.ensures in
     let read = get_or_read q.order.items p c.index-position.result.now low c.index-position.ensures 0 in
     let row : c.row-row.result.now ≡ edge_targets_of c.requires.0 (slice_index_or q.order.items p 0) =
-    c.row-row.ensures ∙ (ap (row_of q.rows.ends.items q.rows.targets.items) read ∙ row-is c.requires.0 c.requires.1 q c.requires.2 p c.in_ok-place.ensures) in
+    c.row-row.ensures ∙ (ap (λ (x : ℕ). slice_index_or q.rows x []) read ∙ row-is c.requires.0 c.requires.1 q c.requires.2 p c.in_ok-place.ensures) in
     subst (λ (xs : List ℕ). (x : ℕ) → count_by (◌==◌ x) xs ≤ slice_index_or q.counts.items x 0) (sym row)
     (few c.requires.0 c.requires.1 q c.requires.2 p c.in_ok-place.ensures)
 
@@ -61,7 +43,7 @@ admit-requires-clause-made c = λ x among.
     let low = in-order c.requires.0 c.requires.1 q c.requires.2 p c.in_ok-place.ensures in
     let read = get_or_read q.order.items p c.index-position.result.now low c.index-position.ensures 0 in
     let row : c.row-row.result.now ≡ edge_targets_of c.requires.0 (slice_index_or q.order.items p 0) =
-    c.row-row.ensures ∙ (ap (row_of q.rows.ends.items q.rows.targets.items) read ∙ row-is c.requires.0 c.requires.1 q c.requires.2 p c.in_ok-place.ensures) in
+    c.row-row.ensures ∙ (ap (λ (x : ℕ). slice_index_or q.rows x []) read ∙ row-is c.requires.0 c.requires.1 q c.requires.2 p c.in_ok-place.ensures) in
     let under = row-low c.requires.0 c.requires.1 q c.requires.2 p c.in_ok-place.ensures x (subst (λ (xs : List ℕ). Contains xs x) row among) in
     let size = c.requires.2.waits.made_size in
     let made : c.deref-2.result.now ≡ slice_set q.made.items c.index-position.result.now true = c.deref-2.ensures.value in
@@ -75,7 +57,7 @@ admit-requires-clause-counts c = λ x among.
     let low = in-order c.requires.0 c.requires.1 q c.requires.2 p c.in_ok-place.ensures in
     let read = get_or_read q.order.items p c.index-position.result.now low c.index-position.ensures 0 in
     let row : c.row-row.result.now ≡ edge_targets_of c.requires.0 (slice_index_or q.order.items p 0) =
-    c.row-row.ensures ∙ (ap (row_of q.rows.ends.items q.rows.targets.items) read ∙ row-is c.requires.0 c.requires.1 q c.requires.2 p c.in_ok-place.ensures) in
+    c.row-row.ensures ∙ (ap (λ (x : ℕ). slice_index_or q.rows x []) read ∙ row-is c.requires.0 c.requires.1 q c.requires.2 p c.in_ok-place.ensures) in
     let under = row-low c.requires.0 c.requires.1 q c.requires.2 p c.in_ok-place.ensures x (subst (λ (xs : List ℕ). Contains xs x) row among) in
     let size = c.requires.2.waits.counts_size in
     let long : length c.deref-3.result.now ≡ length q.counts.items = ap length c.deref-3.ensures.value ∙ c.count_off.ensures.size in
@@ -98,7 +80,7 @@ returns-clause-queue c = λ edges positions is.
     let read = get_or_read q.order.items p c.index-position.result.now low c.index-position.ensures 0 in
     let x = slice_index_or q.order.items p 0 in
     let row : c.row-row.result.now ≡ edge_targets_of edges x =
-    c.row-row.ensures ∙ (ap (row_of q.rows.ends.items q.rows.targets.items) read ∙ row-is edges positions q is p first) in
+    c.row-row.ensures ∙ (ap (λ (x : ℕ). slice_index_or q.rows x []) read ∙ row-is edges positions q is p first) in
     let less : (y : ℕ) → slice_index_or c.count_off.new.counts.items y 0 + count_by (◌==◌ y) (edge_targets_of edges x) ≡ slice_index_or q.counts.items y 0 =
     subst (λ (xs : List ℕ). (y : ℕ) → slice_index_or c.count_off.new.counts.items y 0 + count_by (◌==◌ y) xs ≡ slice_index_or q.counts.items y 0) row c.count_off.ensures.less in
     let back : p + 1 - 1 ≡ p = omega arith in

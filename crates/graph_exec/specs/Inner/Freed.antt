@@ -5,7 +5,7 @@ use Rattle.std.specs.List.{IsDistinct}
 use Rattle.edges.specs.declared.edge.Edge.{Edge}
 use Rattle.cluster_types.specs.Graphs.{GraphOf, IsGraph}
 use Rattle.edges.specs.Sources.{is_in_list}
-use Rattle.edges.specs.Rows.{AreRows}
+use Rattle.edges.specs.Rows.{edge_targets}
 
 -- how many edges lead to a position from others than these
 abbrev pub edges_held : List Edge → List ℕ → ℕ → ℕ
@@ -38,9 +38,9 @@ pub record ClearsGates (g : GraphOf) (begun succeeded ready : List Bool) (taken 
   pub success_begun : (x : ℕ) → x < length g.actions → slice_index_or succeeded x false ≡ true → slice_index_or begun x false ≡ true
 
 -- at rest: the edges of each cleared position were counted off, none is pending, and there is room for all positions
-pub record ClearingRests (g : GraphOf) (ends targets : List ℕ) (begun succeeded ready : List Bool) (left cleared : List ℕ) (room : ℕ) : Type 0 where
+pub record ClearingRests (g : GraphOf) (rows : List (List ℕ)) (begun succeeded ready : List Bool) (left cleared : List ℕ) (room : ℕ) : Type 0 where
   pub graph : IsGraph g
-  pub rows : AreRows g.edges.positions g.edges.list g.edges.list ends targets
+  pub rows_are : rows ≡ edge_targets g.edges.positions g.edges.list
   pub has_room : g.edges.positions ≤ room
   pub begun_size : length begun ≡ length g.actions
   pub succeeded_size : length succeeded ≡ length g.actions

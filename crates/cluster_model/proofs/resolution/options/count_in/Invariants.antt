@@ -1,0 +1,7 @@
+use Rattle.std.proofs.Common.{◌≡◌, drop}
+use Rattle.crm_parse.specs.Values.{count_of}
+use Rattle.cluster_model.specs.Settings.{option_as}
+use Rattle.cluster_model.proofs.resolution.options.count_in.Given as goal
+
+abbrev pub invariant-loop-statement : goal.invariant-loop-statement
+invariant-loop-statement l = option_as count_of l.fn.key l.statements ≡ option_as count_of l.fn.key (drop l.statement-index l.statements)
