@@ -21,7 +21,7 @@ use Rattle.sim_core.specs.declared.verdict.Clause.{Clause}
 use Rattle.sim_core.specs.declared.verdict.Clause.TheVariants as clause
 use Rattle.sim_core.specs.declared.verdict.Verdict.{Verdict}
 use Rattle.sim_core.specs.declared.verdict.Verdict.TheVariants.{Yes, No}
-use Rattle.sim_core.specs.Inner.Auditors.{PassesLines, HasStopped, audited_lines}
+use Rattle.sim_core.specs.Inner.Auditors.{PassesLines, HasSaidStop, audited_lines}
 use Rattle.sim_core.specs.Lawful.{IsWholeRunOfLines, Judges, answer_in, answers_of_lines, clause_of, line_number_at, other, said, undue}
 
 -- what stands behind some elements
@@ -109,7 +109,7 @@ module _ (c : Cluster) (journal : Journal) (lines : List RunTextLine) (after : �
   -- it has stopped
   module _ (steady over over_now : Bool) (answers : List Answer) (are : answers ≡ answers_of_lines (said lines)) (rest : Option (List Answer)) (left : Journal)
       (Follows : List RunLine → Type 0) (v : Verdict)
-      (w : IsStopped Follows (HasStopped start now) (setting c journal.promotions true steady) journal.events (sight (Some answers) over) (sight rest over_now) left) where
+      (w : IsStopped Follows (HasSaidStop start now) (setting c journal.promotions true steady) journal.events (sight (Some answers) over) (sight rest over_now) left) where
     due_kept : now.due ≡ Some (clause_of w.told.at)
     due_kept = w.told.stopped.due_is
 
@@ -145,8 +145,8 @@ module _ (c : Cluster) (journal : Journal) (lines : List RunTextLine) (after : �
   -- it stops at a line alone
   module _ (steady over over_now : Bool) (answers : List Answer) (are : answers ≡ answers_of_lines (said lines)) (rest : Option (List Answer)) (left : Journal)
       (Follows : List RunLine → Type 0) (v : Verdict) where
-    pub other_found : IsStopped Follows (HasStopped start now) (setting c journal.promotions true steady) journal.events (sight (Some answers) over) (sight rest over_now) left
-        ⊎ IsStoppedAsking Follows (HasStopped start now) (setting c journal.promotions true steady) journal.events (sight (Some answers) over) (sight rest over_now) left
+    pub other_found : IsStopped Follows (HasSaidStop start now) (setting c journal.promotions true steady) journal.events (sight (Some answers) over) (sight rest over_now) left
+        ⊎ IsStoppedAsking Follows (HasSaidStop start now) (setting c journal.promotions true steady) journal.events (sight (Some answers) over) (sight rest over_now) left
         → ((kind : Clause) → now.due ≡ Some kind → v ≡ No (line_number_at now.lines.now now.place after) kind) → Judges c journal lines after v
     other_found (inl w) is_no = stopped_found steady over over_now answers are rest left Follows v w is_no
     other_found (inr w) is_no = absurd w.told

@@ -153,14 +153,14 @@ impl<'a> Auditor<'a> {
 
 impl<'a> Watcher for Auditor<'a> {
     ghost use Rattle.std.specs.Prelude.{◌≡◌};
-    ghost use Rattle.sim_core.specs.Inner.Auditors.{PassesLines, HasStopped, audited_cluster, ShowsRun};
+    ghost use Rattle.sim_core.specs.Inner.Auditors.{PassesLines, HasSaidStop, audited_cluster, ShowsRun};
     ghost use Rattle.sim_core.specs.Inner.AuditorLaws.{passes_itself, passes_then, stops_behind};
 
     ghost is_of = { λ a c. audited_cluster a ≡ c };
 
     ghost follows = { λ old new lines. PassesLines old new lines };
 
-    ghost stopped = { λ old new lines at. HasStopped old new lines at };
+    ghost stopped = { λ old new lines at. HasSaidStop old new lines at };
 
     ghost quiet = { λ _. Unit {0} };
 

@@ -56,6 +56,6 @@ pub record StopsAtLine (old new : Auditor) (lines : List RunLine) (at : RunLine)
   pub due_is : new.due ≡ Some (clause_of at)
 
 -- it has stopped so where it was told a line. Before a question to the source it always goes on
-abbrev pub HasStopped : Auditor → Auditor → List RunLine → Option RunLine → Type 0
-HasStopped old new lines (Some at) = StopsAtLine old new lines at
-HasStopped old new lines None = ⊥
+abbrev pub HasSaidStop : Auditor → Auditor → List RunLine → Option RunLine → Type 0
+HasSaidStop old new lines (Some at) = StopsAtLine old new lines at
+HasSaidStop old new lines None = ⊥
