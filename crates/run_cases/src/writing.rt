@@ -12,16 +12,16 @@ use crm_lex::Name;
 use listed::Listed;
 use std::alloc::Global;
 use std::process::Abort;
-use trace_text::{RunLineRef, run_text, valid_clusters_have_short_names, write_line};
+use trace_text::{LineBuf, RunLineRef, run_text, valid_clusters_have_short_names, write_line};
 
 /// Adds a line to a text.
 fn add(rt: &impl Abort, text: &mut Vec<u8>, cluster: &Cluster, line: &RunLineRef<'_>)
     requires names { HasShortNames cluster.now }
     requires reason { HasName line.now }
 {
-    let mut buf = [0; 1024];
-    let length = write_line(cluster, line, &mut buf);
-    text.extend_from_slice(&buf[..length]).expect(rt, "memory");
+    let mut buf = LineBuf::new();
+    write_line(cluster, line, &mut buf);
+    text.extend_from_slice(buf.as_slice()).expect(rt, "memory");
 }
 
 fn add_targets(rt: &impl Abort, text: &mut Vec<u8>, cluster: &Cluster)

@@ -49,7 +49,7 @@ module _ (c : Cluster) where
           slice_get_left kept (x ∷ []) (r * length c.nodes + n) earlier ∙ f.each r n l m earlier
 
   pub holds-filled : (kept : List Real) (cells : Cells) → length kept ≡ length c.leaves * length c.nodes → IsFilled c kept cells → Holds c kept cells
-  holds-filled kept cells full f = record { full = full; each = λ r n l m. f.each r n l m (place_within c (length kept) r n full l m) }
+  holds-filled kept cells full f = record { each = λ r n l m. f.each r n l m (place_within c (length kept) r n full l m) }
 
   -- how a node stands, by the last that is shown of it
   pub not_joined_lost : (n : ℕ) (es : List Event) (s : Option NodeSign) → is_joined_sign s ≡ false → state_by c n es s ≡ Unclean → standing.Lost ≡ standing_by c s

@@ -30,18 +30,17 @@ module _ (c : Cluster) where
   -- the same cells, said otherwise
   pub holds_as : (kept : List Real) (one other : Cells) → Holds c kept one → ((r n : ℕ) → r < length c.leaves → n < length c.nodes → one r n ≡ other r n)
       → Holds c kept other
-  holds_as kept one other h same = record { full = h.full; each = λ r n l m. h.each r n l m ∙ ap Some (same r n l m) }
+  holds_as kept one other h same = record { each = λ r n l m. h.each r n l m ∙ ap Some (same r n l m) }
 
-  pub holds_set : (kept : List Real) (leaf node : ℕ) (x : Real) (held : Cells) → leaf < length c.leaves → node < length c.nodes → Holds c kept held
+  pub holds_set : (kept : List Real) (leaf node : ℕ) (x : Real) (held : Cells) → length kept ≡ length c.leaves * length c.nodes → leaf < length c.leaves → node < length c.nodes → Holds c kept held
       → Holds c (set kept (leaf * length c.nodes + node) x) (with_changed_cell leaf node (λ y. x) held)
-  holds_set kept leaf node x held has_leaf has_node h = let at = leaf * length c.nodes + node in record {
-    full = length-set kept at x ∙ h.full;
+  holds_set kept leaf node x held full has_leaf has_node h = let at = leaf * length c.nodes + node in record {
     each = λ r n l m.
         let place = r * length c.nodes + n in
-        let in_old = place_within kept r n h.full l m in
+        let in_old = place_within kept r n full l m in
         let in_new : place < length (set kept at x) = omega (arith, in_old, length-set kept at x) in
         let same = same_place (length c.nodes) r n leaf node m has_node (r == leaf) refl ∙ same_cell r n leaf node in
-        slice_get-get_or (set kept at x) place x in_new ∙ (ap Some (get-at kept place at x x (place_within kept leaf node h.full has_leaf has_node) (place == at) refl)
+        slice_get-get_or (set kept at x) place x in_new ∙ (ap Some (get-at kept place at x x (place_within kept leaf node full has_leaf has_node) (place == at) refl)
         ∙ split r n l m in_old (is_same_cell r n leaf node) (place == at) same refl);
   }
     where

@@ -18,10 +18,10 @@ never_risen real.Rising e = let no = ap is_rising e in cc
 never_risen real.Started e = let no = ap is_rising e in cc
 never_risen real.Promoted e = let no = ap is_rising e in cc
 
-module _ (c : Cluster) (nodes : List Standing) (cells : List Real) (rising : Option (ℕ × ℕ)) (number state given : ℕ) (w : World)
-    (s : ShowsWorld (reality c nodes cells rising number state given) w) where
+module _ (c : Cluster) (nodes : List Standing) (cells : List Real) (rising : Option (ℕ × ℕ)) (number state faults : ℕ) (w : World)
+    (s : ShowsWorld (reality c nodes cells rising number state faults) w) where
   pub shows_begun : (new : List Real) (a : Action) → ((held : Cells) → Holds c cells held → Holds c new (begun c a held))
-      → ShowsWorld (reality c nodes new rising number state given) (after_begin c w a)
+      → ShowsWorld (reality c nodes new rising number state faults) (after_begin c w a)
   shows_begun new a held = record {
     nodes = s.nodes;
     cells = held w.cells s.cells;
@@ -31,7 +31,7 @@ module _ (c : Cluster) (nodes : List Standing) (cells : List Real) (rising : Opt
   }
 
   pub shows_calm : (new : List Real) → ((held : Cells) → Holds c cells held → IsAlone c rising held → Holds c new (λ r n. risen (held r n)))
-      → ShowsWorld (reality c nodes new None number state given) (calm w)
+      → ShowsWorld (reality c nodes new None number state faults) (calm w)
   shows_calm new held = record {
     nodes = s.nodes;
     cells = held w.cells s.cells s.alone;
@@ -43,7 +43,7 @@ module _ (c : Cluster) (nodes : List Standing) (cells : List Real) (rising : Opt
   pub next_is : next_state state ≡ state_after number (w.drawn + 1)
   next_is = ap next_state s.state ∙ sym (state_more number w.drawn)
 
-  pub shows_drawn : (next : ℕ) → next ≡ next_state state → ShowsWorld (reality c nodes cells rising number next given) (with_draws w 1)
+  pub shows_drawn : (next : ℕ) → next ≡ next_state state → ShowsWorld (reality c nodes cells rising number next faults) (with_draws w 1)
   shows_drawn next is = record { nodes = s.nodes; cells = s.cells; alone = s.alone; state = is ∙ next_is; faults = s.faults }
 
   pub drawn_is : (next bound : ℕ) → next ≡ next_state state → taken_of next bound ≡ draw number (w.drawn + 1) bound

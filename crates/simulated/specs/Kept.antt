@@ -1,14 +1,13 @@
--- What is kept of a simulated cluster, and what it stands for (rule of this project).
+-- What contracts see of a simulated cluster that is kept, and which simulated cluster it stands for (rule of this project).
 use Rattle.std.specs.Prelude.{◌≡◌, ◌≢◌, ℕ, ◌+◌, ◌*◌, ◌<◌, Option, Some, List, length, slice_get}
 use Rattle.cluster_types.specs.declared.cluster.Cluster.{Cluster}
-use Rattle.cluster_types.specs.Valid.{KeepsLimits}
 use Rattle.simulated.specs.declared.real.Real.{Real}
 use Rattle.simulated.specs.declared.real.Real.TheVariants as real
 use Rattle.simulated.specs.declared.real.Standing.{Standing}
 use Rattle.cases.specs.Draws.{state_after}
 use Rattle.simulated.specs.RealWorlds.{Cells, World}
 
--- what is kept: how each node stands; what each cell has, leaf by leaf and node by node; which cell comes up, if one does; the number, the state of its
+-- how each node stands; what each leaf does on each node, leaf by leaf and node by node; which cell comes up, if one does; the number, the state of its
 -- draws, and how many faults it was given
 pub record RealityOf : Type 0 where
   pub cluster : Cluster
@@ -18,19 +17,6 @@ pub record RealityOf : Type 0 where
   pub number : ℕ
   pub state : ℕ
   pub faults : ℕ
-
--- the list has these cells
-pub record Holds (c : Cluster) (kept : List Real) (cells : Cells) : Type 0 where
-  pub full : length kept ≡ length c.leaves * length c.nodes
-  pub each : (r n : ℕ) → r < length c.leaves → n < length c.nodes → slice_get kept (r * length c.nodes + n) ≡ Some (cells r n)
-
--- no cell comes up
-abbrev pub NoneRises : Cluster → List Real → Type 0
-NoneRises c kept = (r n : ℕ) → r < length c.leaves → n < length c.nodes → slice_get kept (r * length c.nodes + n) ≢ Some real.Rising
-
--- no cell comes up but this one
-abbrev pub IsAlone : Cluster → Option (ℕ × ℕ) → Cells → Type 0
-IsAlone c rising cells = (r n : ℕ) → r < length c.leaves → n < length c.nodes → cells r n ≡ real.Rising → rising ≡ Some (r, n)
 
 abbrev pub reality : Cluster → List Standing → List Real → Option (ℕ × ℕ) → ℕ → ℕ → ℕ → RealityOf
 reality c nodes cells rising number state faults = record {
@@ -43,9 +29,25 @@ reality c nodes cells rising number state faults = record {
   faults = faults;
 }
 
+-- what a leaf does on a node, of a list that goes leaf by leaf and node by node
+abbrev pub listed_cell : Cluster → List Real → ℕ → ℕ → Option Real
+listed_cell c listed r n = slice_get listed (r * length c.nodes + n)
+
+-- the list has these cells
+pub record Holds (c : Cluster) (listed : List Real) (cells : Cells) : Type 0 where
+  pub each : (r n : ℕ) → r < length c.leaves → n < length c.nodes → listed_cell c listed r n ≡ Some (cells r n)
+
+-- no cell of the list comes up
+abbrev pub NoneRises : Cluster → List Real → Type 0
+NoneRises c listed = (r n : ℕ) → r < length c.leaves → n < length c.nodes → listed_cell c listed r n ≢ Some real.Rising
+
 -- the list says how these nodes stand
 abbrev pub HoldsNodes : ℕ → List Standing → (ℕ → Standing) → Type 0
-HoldsNodes count kept nodes = (n : ℕ) → n < count → slice_get kept n ≡ Some (nodes n)
+HoldsNodes count listed nodes = (n : ℕ) → n < count → slice_get listed n ≡ Some (nodes n)
+
+-- no cell comes up but this one
+abbrev pub IsAlone : Cluster → Option (ℕ × ℕ) → Cells → Type 0
+IsAlone c rising cells = (r n : ℕ) → r < length c.leaves → n < length c.nodes → cells r n ≡ real.Rising → rising ≡ Some (r, n)
 
 -- it stands for this simulated cluster. It stands for none where a cell comes up and isn't kept as the one that does
 pub record ShowsWorld (k : RealityOf) (w : World) : Type 0 where
@@ -54,12 +56,6 @@ pub record ShowsWorld (k : RealityOf) (w : World) : Type 0 where
   pub alone : IsAlone k.cluster k.rising w.cells
   pub state : k.state ≡ state_after k.number w.drawn
   pub faults : k.faults ≡ w.faults
-
--- the cluster is within the limits, and there is something kept of each node and cell
-pub record RealityFits (k : RealityOf) : Type 0 where
-  pub limits : KeepsLimits k.cluster
-  pub nodes : length k.nodes ≡ length k.cluster.nodes
-  pub cells : length k.cells ≡ length k.cluster.leaves * length k.cluster.nodes
 
 -- the cluster and the number stay
 pub record IsOfSame (old new : RealityOf) : Type 0 where

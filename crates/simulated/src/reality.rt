@@ -33,13 +33,14 @@ pub struct Reality<'c> {
 }
 
 impl<'c> Model for Reality<'c> {
-    ghost use Rattle.simulated.specs.Kept.{RealityOf, RealityFits, reality};
+    ghost use Rattle.simulated.specs.Kept.{RealityOf, reality};
+    ghost use Rattle.simulated.specs.Inner.Kept.{RealityFits};
 
     ghost Value = { RealityOf };
 
     ghost view = { λ k. reality k.cluster.now k.nodes.items k.cells.items k.rising k.number k.state k.faults };
 
-    ghost invariant = { λ k. RealityFits (reality k.cluster.now k.nodes.items k.cells.items k.rising k.number k.state k.faults) };
+    ghost invariant = { λ k. RealityFits k.cluster.now k.nodes.items k.cells.items };
 }
 
 impl<'c> Reality<'c> {

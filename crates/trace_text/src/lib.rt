@@ -29,6 +29,7 @@ mod laws;
 
 pub use graph_lines::graph_text;
 pub use laws::{reasons_with_names_are_named, valid_clusters_have_short_names};
+pub use line_buf::LineBuf;
 pub use loss_lines::survive_text;
 pub use names::{node_name, push_leaf_on};
 pub use numbers::push_number;

@@ -1,16 +1,17 @@
 //! A line as it grows.
 
-ghost use Rattle.std.specs.Prelude.{◌≡◌, ◌+◌, ◌≤◌, ◌++◌, [], decimal, length, take};
+ghost use Rattle.std.specs.Prelude.{◌≡◌, ◌+◌, ◌≤◌, ◌++◌, [], decimal, length};
 
 use itoa::Buffer;
 use std::marker::Model;
 
 /// How many bytes a line may have.
-pub(crate) const ROOM: usize = 1024;
+const ROOM: usize = 1024;
 
-/// A line as it grows, without memory. Contracts see it as its bytes.
+/// A line as it grows, without memory, of at most 1,024 bytes. It is lent to whoever writes a line, and serves again for the
+/// next. Contracts see it as its bytes.
 #[derive(Drop)]
-pub(crate) struct LineBuf {
+pub struct LineBuf {
     bytes: [u8; ROOM],
     len: usize,
 }
@@ -27,7 +28,7 @@ impl Model for LineBuf {
 
 impl LineBuf {
     /// Nothing is written yet.
-    pub(crate) fn new() -> LineBuf
+    pub fn new() -> LineBuf
         ensures text { result ≡ [] }
         ensures size { length result ≡ 0 }
     {
@@ -37,8 +38,16 @@ impl LineBuf {
         }
     }
 
+    /// Begins a new line.
+    pub fn clear(&mut self)
+        ensures text { self.new ≡ [] }
+        ensures size { length self.new ≡ 0 }
+    {
+        self.len = 0;
+    }
+
     /// Adds bytes.
-    pub(crate) fn put(&mut self, bytes: &[u8])
+    pub fn put(&mut self, bytes: &[u8])
         requires { length self.old + length bytes.now ≤ 1024 }
         ensures text { self.new ≡ self.old ++ bytes.now }
         ensures size { length self.new ≡ length self.old + length bytes.now }
@@ -49,7 +58,7 @@ impl LineBuf {
     }
 
     /// Adds a number in decimal, without leading zeros.
-    pub(crate) fn put_number(&mut self, number: u64)
+    pub fn put_number(&mut self, number: u64)
         requires { length self.old + 40 ≤ 1024 }
         ensures text { self.new ≡ self.old ++ decimal number }
         ensures size { length self.new ≤ length self.old + 40 }
@@ -58,20 +67,11 @@ impl LineBuf {
         self.put(digits.format(number).as_bytes());
     }
 
-    fn as_slice(&self) -> &[u8]
+    /// Its bytes.
+    pub fn as_slice(&self) -> &[u8]
         ensures text { result.now ≡ self.now }
         ensures size { length result.now ≤ 1024 }
     {
         &self.bytes[..self.len]
-    }
-
-    /// Copies the line to the front of a buffer, and gives its length.
-    pub(crate) fn copy_to(&self, buf: &mut [u8; ROOM]) -> usize
-        ensures size { result ≡ length self.now }
-        ensures text { take result buf.new ≡ self.now }
-    {
-        let line = self.as_slice();
-        buf[..line.len()].copy_from_slice(line);
-        line.len()
     }
 }

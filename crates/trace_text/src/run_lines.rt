@@ -1,6 +1,6 @@
 //! The lines of a run, written without memory.
 
-ghost use Rattle.std.specs.Prelude.{◌≡◌, ◌<◌, ◌≤◌, ◌+◌, ◌++◌, true, codes, decimal, length, take};
+ghost use Rattle.std.specs.Prelude.{◌≡◌, ◌≤◌, ◌+◌, ◌++◌, true, codes, decimal, length};
 ghost use Rattle.cluster_types.specs.Fields.{leaf_name};
 ghost use Rattle.cluster_types.specs.Texts as texts;
 ghost use Rattle.crm_lex.specs.Names.{is_name};
@@ -306,20 +306,17 @@ fn put_words(text: &mut LineBuf, cluster: &Cluster, what: &RunLineRef<'_>)
     }
 }
 
-/// Writes the line of a run at the front of the buffer, with its line feed, and gives its length in bytes: less than
-/// 1,024. It takes no memory.
+/// Writes the line of a run, with its line feed, in place of what the buffer has. It takes no memory.
 ///
 /// It asks for names of at most 256 bytes, as a valid cluster has (`valid_clusters_have_short_names`), and that the id
 /// of a rule that holds a leaf back is a name (`reasons_with_names_are_named`). A leaf or node that the cluster doesn't
 /// have is written as an empty name. Rule of this project.
-pub fn write_line(cluster: &Cluster, line: &RunLineRef<'_>, buf: &mut [u8; 1024]) -> usize
+pub fn write_line(cluster: &Cluster, line: &RunLineRef<'_>, text: &mut LineBuf)
     requires names { HasShortNames cluster.now }
     requires reason { HasName line.now }
-    ensures length { result < 1024 }
-    ensures text { take result buf.new ≡ texts.run_line cluster.now (lent_line line.now) }
+    ensures { text.new ≡ texts.run_line cluster.now (lent_line line.now) }
 {
-    let mut text = LineBuf::new();
-    put_words(&mut text, cluster, line);
+    text.clear();
+    put_words(text, cluster, line);
     text.put(b"\n");
-    text.copy_to(buf)
 }

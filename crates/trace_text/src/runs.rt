@@ -8,6 +8,7 @@ ghost use Rattle.cluster_types.specs.Texts as texts;
 ghost use Rattle.cluster_types.specs.Valid.{KeepsLimits};
 ghost use Rattle.trace_text.specs.RunLines.{HasName, HasShortNames, lent_line};
 
+use crate::line_buf::LineBuf;
 use crate::run_line_ref::RunLineRef;
 use crate::run_lines::write_line;
 use crate::target_lines::push_targets;
@@ -15,8 +16,10 @@ use cluster_types::{Action, Answer, Cluster, Event, Op, Outcome, Passed, PassedE
 use faults::NoMemory;
 use std::alloc::Global;
 
+/// The line of a run. The buffer serves for it.
 fn push_run_line(
     text: &mut Vec<u8>,
+    buf: &mut LineBuf,
     cluster: &Cluster,
     line: &RunLineRef<'_>,
 ) -> Result<(), NoMemory>
@@ -24,9 +27,8 @@ fn push_run_line(
     requires reason { HasName line.now }
     ensures { OnOk result (text.new.items ≡ text.old.items ++ texts.run_line cluster.now (lent_line line.now)) }
 {
-    let mut buf = [0; 1024];
-    let length = write_line(cluster, line, &mut buf);
-    text.extend_from_slice(&buf[..length])?;
+    write_line(cluster, line, buf);
+    text.extend_from_slice(buf.as_slice())?;
     Ok(())
 }
 
@@ -90,25 +92,35 @@ fn line_of_event(event: Event) -> Option<RunLineRef<'static>>
 }
 
 /// The line of an event, if it has one.
-fn push_event(text: &mut Vec<u8>, cluster: &Cluster, event: Event) -> Result<(), NoMemory>
+fn push_event(
+    text: &mut Vec<u8>,
+    buf: &mut LineBuf,
+    cluster: &Cluster,
+    event: Event,
+) -> Result<(), NoMemory>
     requires { HasShortNames cluster.now }
     ensures { OnOk result (text.new.items
         ≡ text.old.items ++ flat_map (texts.run_line cluster.now) (texts.event_lines event)) }
 {
     match line_of_event(event) {
-        Some(line) => push_run_line(text, cluster, &line),
+        Some(line) => push_run_line(text, buf, cluster, &line),
         None => Ok(()),
     }
 }
 
 /// The lines of some events.
-fn push_events(text: &mut Vec<u8>, cluster: &Cluster, events: &[Event]) -> Result<(), NoMemory>
+fn push_events(
+    text: &mut Vec<u8>,
+    buf: &mut LineBuf,
+    cluster: &Cluster,
+    events: &[Event],
+) -> Result<(), NoMemory>
     requires { HasShortNames cluster.now }
     ensures { OnOk result (text.new.items
         ≡ text.old.items ++ flat_map (texts.run_line cluster.now) (flat_map texts.event_lines events.now)) }
 {
     for event in events {
-        push_event(text, cluster, *event)?;
+        push_event(text, buf, cluster, *event)?;
     }
     Ok(())
 }
@@ -126,6 +138,7 @@ fn between(events: &[Event], from: usize, to: usize) -> &[Event]
 /// How a transition ended, if it did.
 fn push_end(
     text: &mut Vec<u8>,
+    buf: &mut LineBuf,
     cluster: &Cluster,
     number: u32,
     end: PassedEnd,
@@ -135,8 +148,8 @@ fn push_end(
         ≡ text.old.items ++ flat_map (texts.run_line cluster.now) (texts.end_lines cluster.now number end)) }
 {
     match end {
-        PassedEnd::Complete => push_run_line(text, cluster, &RunLineRef::Complete(number)),
-        PassedEnd::Aborted => push_run_line(text, cluster, &RunLineRef::Aborted(number)),
+        PassedEnd::Complete => push_run_line(text, buf, cluster, &RunLineRef::Complete(number)),
+        PassedEnd::Aborted => push_run_line(text, buf, cluster, &RunLineRef::Aborted(number)),
         PassedEnd::Cut => Ok(()),
     }
 }
@@ -144,6 +157,7 @@ fn push_end(
 /// The lines of a transition: its targets, what happened, and how it ended.
 fn push_passed(
     text: &mut Vec<u8>,
+    buf: &mut LineBuf,
     cluster: &Cluster,
     events: &[Event],
     number: u32,
@@ -155,7 +169,7 @@ fn push_passed(
         ≡ text.old.items
         ++ flat_map (texts.run_line cluster.now) (texts.passed_lines cluster.now events.now number passed.now)) }
 {
-    push_run_line(text, cluster, &RunLineRef::Transition(number))?;
+    push_run_line(text, buf, cluster, &RunLineRef::Transition(number))?;
     push_targets(
         text,
         cluster,
@@ -165,10 +179,11 @@ fn push_passed(
     )?;
     push_events(
         text,
+        buf,
         cluster,
         between(events, passed.begins_at as usize, passed.ends_at as usize),
     )?;
-    push_end(text, cluster, number, passed.end)?;
+    push_end(text, buf, cluster, number, passed.end)?;
     Ok(())
 }
 
@@ -185,6 +200,7 @@ fn begin_of(events: &[Event], passed: &[Passed]) -> usize
 /// The lines of a transition, and of what came between it and the next of those after it.
 fn push_first(
     text: &mut Vec<u8>,
+    buf: &mut LineBuf,
     cluster: &Cluster,
     events: &[Event],
     number: u32,
@@ -198,10 +214,11 @@ fn push_first(
         ++ flat_map texts.event_lines
         (texts.between passed.now.ends_at (texts.begin_of cluster.now events.now after.now) events.now))) }
 {
-    push_passed(text, cluster, events, number, passed)?;
+    push_passed(text, buf, cluster, events, number, passed)?;
     let next = begin_of(events, after);
     push_events(
         text,
+        buf,
         cluster,
         between(events, passed.ends_at as usize, next),
     )?;
@@ -220,11 +237,12 @@ pub fn run_text(alloc: Global, cluster: &Cluster, run: &Run) -> Result<Vec<u8>, 
     ensures { IfOk result (λ text. text.items ≡ texts.run_text cluster.now run.now) }
 {
     let mut text = Vec::new(alloc);
+    let mut buf = LineBuf::new();
     let events = run.journal.events.as_slice();
     let mut left = run.passed.as_slice();
     let mut number = 1;
     while let Some((passed, after)) = left.split_first() {
-        push_first(&mut text, cluster, events, number, passed, after)?;
+        push_first(&mut text, &mut buf, cluster, events, number, passed, after)?;
         number += 1;
         left = after;
     }

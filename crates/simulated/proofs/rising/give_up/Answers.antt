@@ -3,11 +3,11 @@ use Rattle.simulated.proofs.Holding.{undone_rising}
 use Rattle.cluster_types.specs.declared.journal.Action.TheVariants.{MigrateTo}
 use Rattle.simulated.proofs.rising.give_up.Goals as goal
 
-pub returns-in-Cell-clause-held : goal.returns-in-Cell-clause-held
-returns-in-Cell-clause-held c = rw c.in-Cell.is c.give_up_op.ensures.held
+pub returns-in-Operation-clause-held : goal.returns-in-Operation-clause-held
+returns-in-Operation-clause-held c = rw c.in-Operation.is c.give_up_op.ensures.held
 
-pub returns-in-Cell-clause-alone : goal.returns-in-Cell-clause-alone
-returns-in-Cell-clause-alone c = rw c.in-Cell.is c.give_up_op.ensures.alone
+pub returns-in-Operation-clause-alone : goal.returns-in-Operation-clause-alone
+returns-in-Operation-clause-alone c = rw c.in-Operation.is c.give_up_op.ensures.alone
 
 pub returns-in-MigrateTo-clause-held : goal.returns-in-MigrateTo-clause-held
 returns-in-MigrateTo-clause-held c = rw c.in-MigrateTo.is c.set_if_found.ensures.held
