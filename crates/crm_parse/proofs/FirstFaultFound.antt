@@ -5,11 +5,11 @@ use Rattle.crm_parse.specs.declared.draft.Draft.{Draft}
 use Rattle.crm_parse.specs.declared.draft.DraftStatement.{DraftStatement}
 use Rattle.crm_parse.specs.declared.fault.ParseCause.{ParseCause}
 use Rattle.crm_parse.specs.declared.fault.ParseCause.TheVariants.{UnknownStatement, Unsupported, BadScore, BadTime, BadValue, MissingWord, ExtraWord, RepeatedKey}
-use Rattle.crm_parse.specs.FirstFaults.{BeginsLine, FirstFault, LacksEnabled, ends_early, no_word_yet, says_one}
+use Rattle.crm_parse.specs.FirstFaults.{BeginsLine, FirstFault, LacksEnabled}
 use Rattle.crm_parse.specs.Reading.{Words}
 use Rattle.crm_parse.specs.Statements.{draft_of}
 use Rattle.crm_parse.proofs.LinesStay.{line-stays}
-use Rattle.crm_parse.proofs.Grammar.LineRelated.{line-is_said}
+use Rattle.crm_parse.proofs.LinesLack.{begins-itself, begins-unless, nothing-begins}
 
 either-missing : (cause : ParseCause) → (cause ≡ MissingWord) ⊎ (cause ≢ MissingWord)
 either-missing UnknownStatement = inr (λ e. cc)
@@ -44,12 +44,12 @@ module _ (before : List DraftStatement) where
       → cause ≢ MissingWord → AllByRecursion LacksEnabled behind → BeginsLine before front → draft_of before ((front ++ word ∷ []) ++ behind) ≡ Err cause
       → (BeginsLine before (front ++ word ∷ []) → FirstFault before ((front ++ word ∷ []) ++ behind) cause) → FirstFault before (front ++ word ∷ behind) cause
   found-case front word behind cause (Ok d) r n l b e k =
-      subst (λ ws. FirstFault before ws cause) (append_assoc front (word ∷ []) behind) (k (says_one (front ++ word ∷ []) d (line-is_said before (front ++ word ∷ []) d r)))
+      subst (λ ws. FirstFault before ws cause) (append_assoc front (word ∷ []) behind) (k (begins-itself before (front ++ word ∷ []) d r))
   found-case front word behind cause (Err why) r n l b e k = why-case (either-missing why)
     where
       why-case : (why ≡ MissingWord) ⊎ (why ≢ MissingWord) → FirstFault before (front ++ word ∷ behind) cause
       why-case (inl m) =
-          subst (λ ws. FirstFault before ws cause) (append_assoc front (word ∷ []) behind) (k (ends_early (front ++ word ∷ []) (r ∙ ap (λ (c : ParseCause). Err c) m)))
+          subst (λ ws. FirstFault before ws cause) (append_assoc front (word ∷ []) behind) (k (begins-unless before (front ++ word ∷ []) behind cause (r ∙ ap (λ (c : ParseCause). Err c) m) n e))
       why-case (inr other) =
           let all = stays-refused (front ++ word ∷ []) behind why (pushed front word) other l r in
           let both = sym all ∙ e in
@@ -80,4 +80,4 @@ module _ (before : List DraftStatement) where
   pub first-fault : (words : Words) (cause : ParseCause) → words ≢ [] → cause ≢ MissingWord → AllByRecursion LacksEnabled words → draft_of before words ≡ Err cause
       → FirstFault before words cause
   first-fault [] cause some n l e = absurd (some refl)
-  first-fault (word ∷ words) cause some n l e = found [] word words cause n l.1 no_word_yet e
+  first-fault (word ∷ words) cause some n l e = found [] word words cause n l.1 (nothing-begins before) e

@@ -28,5 +28,6 @@ pub mod LocationRelated
 pub mod LineRelated
 pub mod OrderIsSaid
 pub mod OrderIsRead
+pub mod ActionsSaid
 pub mod ConfigurationRelated
 mod StatementExamples

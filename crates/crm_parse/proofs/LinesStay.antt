@@ -40,7 +40,7 @@ module _ (cause : ParseCause) (more : Words) where
   given-stays [] = λ e. cc
   given-stays (word ∷ words) = option-stays cause more some_name (colon_at (word ∷ words)) (colon_at (word ∷ (words ++ more))) (colon-more word words more)
 
-  given-goes-on : (words : Words) → GoesOn more (given_at words) (given_at (words ++ more))
+  pub given-goes-on : (words : Words) → GoesOn more (given_at words) (given_at (words ++ more))
   unfolding given_at
   given-goes-on [] = λ x v rest e. nothing-left _ x v rest e
   given-goes-on (word ∷ words) = option-goes-on more some_name (colon_at (word ∷ words)) (colon_at (word ∷ (words ++ more))) (colon-more word words more)
@@ -91,7 +91,7 @@ module _ (cause : ParseCause) (more : Words) where
       ap (λ made. Ok (left more made)) same
   members-go-case members word words false k = test-goes-on more (name_of word) _ _ (λ name e. k name)
 
-  members-go-on : (members words : Words) → GoesOn more (members_from members words) (members_from members (words ++ more))
+  pub members-go-on : (members words : Words) → GoesOn more (members_from members words) (members_from members (words ++ more))
   members-go-on members [] = λ x v rest e. nothing-left _ x v rest e
   members-go-on members (word ∷ words) = members-go-case members word words (ends_members word) (λ name. members-go-on (members ++ name ∷ []) words)
 
@@ -113,7 +113,7 @@ module _ (cause : ParseCause) (more : Words) where
   side-stays words = step cause (left more) (next_word_in words) (next_word_in (words ++ more)) _ (next-stays cause more words) (next-goes cause more words) (λ word e.
       test-stays cause (no_attribute word.0) _ _ (λ fits e. test-stays cause (side_of word.0) _ _ (λ side e. ok-stays cause _ _)))
 
-  side-goes : (words : Words) → Goes (left more) (side_at words) (side_at (words ++ more))
+  pub side-goes : (words : Words) → Goes (left more) (side_at words) (side_at (words ++ more))
   unfolding side_at
   side-goes words = goes-step (left more) (left more) (next_word_in words) (next_word_in (words ++ more)) _ (next-goes cause more words) (λ word e.
       test-goes (left more) (no_attribute word.0) _ _ (λ fits e. test-goes (left more) (side_of word.0) _ _ (λ side e. ok-goes (left more) _)))
@@ -148,7 +148,7 @@ module _ (cause : ParseCause) (more : Words) where
   one_step-stays steps words = step cause (left more) (next_word_in words) (next_word_in (words ++ more)) _ (next-stays cause more words) (next-goes cause more words) (λ word e.
       test-stays cause (read_order_step word.0) _ _ (λ one e. ok-stays cause _ _))
 
-  one_step-goes : (steps : List StepDraft) (words : Words) → Goes (left more) (with_step steps words) (with_step steps (words ++ more))
+  pub one_step-goes : (steps : List StepDraft) (words : Words) → Goes (left more) (with_step steps words) (with_step steps (words ++ more))
   unfolding with_step
   one_step-goes steps words = goes-step (left more) (left more) (next_word_in words) (next_word_in (words ++ more)) _ (next-goes cause more words) (λ word e.
       test-goes (left more) (read_order_step word.0) _ _ (λ one e. ok-goes (left more) _))
@@ -243,7 +243,7 @@ module _ (cause : ParseCause) (more : Words) where
   resource-stays words = step cause (left more) (next_word_in words) (next_word_in (words ++ more)) _ (next-stays cause more words) (next-goes cause more words) (λ word e.
       test-stays cause (resource_of word.0) _ _ (λ one e. ok-stays cause _ _))
 
-  resource-goes : (words : Words) → Goes (left more) (resource_at words) (resource_at (words ++ more))
+  pub resource-goes : (words : Words) → Goes (left more) (resource_at words) (resource_at (words ++ more))
   unfolding resource_at
   resource-goes words = goes-step (left more) (left more) (next_word_in words) (next_word_in (words ++ more)) _ (next-goes cause more words) (λ word e.
       test-goes (left more) (resource_of word.0) _ _ (λ one e. ok-goes (left more) _))

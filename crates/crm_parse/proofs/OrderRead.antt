@@ -14,7 +14,7 @@ use Rattle.crm_parse.specs.declared.words.KindWord.TheVariants.{Mandatory, Optio
 use Rattle.crm_parse.specs.Order.{ends_steps, is_serialize_word, kind_at, order_at, read_order_step, step_parts, order_steps_at, symmetrical_as, symmetrical_in, with_step, with_steps, written_action}
 use Rattle.crm_parse.specs.Reading.{Words, end_at, name_at, prefixed_at, resource_of, next_word_in}
 use Rattle.faults.specs.Reading.{◌>>=◌}
-use Rattle.crm_parse.specs.Statements.{action_after, with_actions}
+use Rattle.crm_parse.specs.Inner.StepActions.{action_after, with_actions}
 use Rattle.crm_parse.specs.Values.{bool_of}
 use Rattle.crm_parse.proofs.Binds.{name_at-ok}
 use Rattle.faults.proofs.Steps.{bind-ok}

@@ -31,7 +31,7 @@ module _ (cause : ParseCause) (more : Words) where
   either-case word words None f = rw (either_at, prefixed_at, f) (prefixed-more (codes "role=") word words more)
   either-case word words (Some role) f = rw (either_at, prefixed_at, f) (ap (λ (p : Option (List ℕ) × Words). (Some role, p.1)) (prefixed-more (codes "$role=") word words more))
 
-  either-more : (word : List ℕ) (words : Words) → either_at (word ∷ (words ++ more)) ≡ left more (either_at (word ∷ words))
+  pub either-more : (word : List ℕ) (words : Words) → either_at (word ∷ (words ++ more)) ≡ left more (either_at (word ∷ words))
   either-more word words = either-case word words (after (codes "$role=") word) refl
 
   role-stays : (words : Words) → Stays cause (rule_role_at words) (rule_role_at (words ++ more))
@@ -62,7 +62,7 @@ module _ (cause : ParseCause) (more : Words) where
       test-stays cause (when (is word.0 (codes "rule")) ExtraWord) _ _ (λ taken e.
       last-stays cause (rule_at word.1) (rule_at (word.1 ++ more)) _ (rule-stays word.1)))
 
-  one_rule-goes-on : (before : List RuleForm) (words : Words) → GoesOn more (with_rule before words) (with_rule before (words ++ more))
+  pub one_rule-goes-on : (before : List RuleForm) (words : Words) → GoesOn more (with_rule before words) (with_rule before (words ++ more))
   unfolding with_rule
   one_rule-goes-on before words = goes-on-step (left more) more (next_word_in words) (next_word_in (words ++ more)) _ (next-goes cause more words) (λ word e.
       test-goes-on more (when (is word.0 (codes "rule")) ExtraWord) _ _ (λ taken e.

@@ -26,7 +26,7 @@ module _ (cause : ParseCause) (more : Words) where
   unfolding noted_at
   noted-stays noted words = step cause (left more) (next_word_in words) (next_word_in (words ++ more)) _ (next-stays cause more words) (next-goes cause more words) (λ word e. ok-stays cause _ _)
 
-  noted-goes : (noted words : Words) → Goes (left_kept more) (noted_at noted words) (noted_at noted (words ++ more))
+  pub noted-goes : (noted words : Words) → Goes (left_kept more) (noted_at noted words) (noted_at noted (words ++ more))
   unfolding noted_at
   noted-goes noted words = goes-step (left more) (left_kept more) (next_word_in words) (next_word_in (words ++ more)) _ (next-goes cause more words) (λ word e. ok-goes (left_kept more) _)
 
@@ -73,7 +73,7 @@ module _ (cause : ParseCause) (more : Words) where
   start-stays noted words = noted-then-stays noted words _ (λ word. test-stays cause (ok_or (after (codes "start=") word.0) BadValue) _ _ (λ text h.
       test-stays cause (read_moment text) _ _ (λ t h. ok-stays cause _ _)))
 
-  start-goes : (noted words : Words) → Goes (left_kept more) (start_at noted words) (start_at noted (words ++ more))
+  pub start-goes : (noted words : Words) → Goes (left_kept more) (start_at noted words) (start_at noted (words ++ more))
   unfolding start_at
   start-goes noted words = noted-then-goes (left_kept more) noted words _ (λ word. test-goes (left_kept more) (ok_or (after (codes "start=") word.0) BadValue) _ _ (λ text h.
       test-goes (left_kept more) (read_moment text) _ _ (λ t h. ok-goes (left_kept more) _)))
@@ -143,7 +143,7 @@ module _ (cause : ParseCause) (more : Words) where
   unfolding with_test
   one-stays before words = step cause (left_kept more) (test_at before.words words) (test_at before.words (words ++ more)) _ (test-at-stays before.words words) (test-at-goes before.words words) (λ test e. ok-stays cause _ _)
 
-  one-goes : (before : Expression) (words : Words) → Goes (left more) (with_test before words) (with_test before (words ++ more))
+  pub one-goes : (before : Expression) (words : Words) → Goes (left more) (with_test before words) (with_test before (words ++ more))
   unfolding with_test
   one-goes before words = goes-step (left_kept more) (left more) (test_at before.words words) (test_at before.words (words ++ more)) _ (test-at-goes before.words words) (λ test e. ok-goes (left more) _)
 
@@ -152,7 +152,7 @@ module _ (cause : ParseCause) (more : Words) where
   joined-stays all before words = test-stays cause (joined_alike before.joined all) _ _ (λ t h. noted-then-stays before.words words _ (λ word.
       one-stays (record { joined = Some all; tests = before.tests; words = word.1 }) word.2))
 
-  joined-goes : (all : Bool) (before : Expression) (words : Words) → Goes (left more) (with_joined before all words) (with_joined before all (words ++ more))
+  pub joined-goes : (all : Bool) (before : Expression) (words : Words) → Goes (left more) (with_joined before all words) (with_joined before all (words ++ more))
   unfolding with_joined
   joined-goes all before words = test-goes (left more) (joined_alike before.joined all) _ _ (λ t h. noted-then-goes (left more) before.words words _ (λ word.
       one-goes (record { joined = Some all; tests = before.tests; words = word.1 }) word.2))

@@ -4,8 +4,10 @@ use Rattle.std.specs.List.{AllByRecursion}
 use Rattle.crm_parse.specs.declared.draft.Draft.{Draft}
 use Rattle.crm_parse.specs.declared.draft.DraftStatement.{DraftStatement}
 use Rattle.crm_parse.specs.declared.fault.ParseCause.{ParseCause}
-use Rattle.crm_parse.specs.declared.fault.ParseCause.TheVariants.{MissingWord}
+use Rattle.crm_parse.specs.declared.owner.SectionWord.{SectionWord}
+use Rattle.crm_parse.specs.declared.owner.SectionWord.TheVariants.{Op}
 use Rattle.crm_parse.specs.Grammar.Lines.{LineSays}
+use Rattle.crm_parse.specs.Grammar.Parts.{section_text}
 use Rattle.crm_parse.specs.Reading.{Words}
 use Rattle.crm_parse.specs.Statements.{draft_of}
 
@@ -13,11 +15,11 @@ use Rattle.crm_parse.specs.Statements.{draft_of}
 abbrev pub LacksEnabled : List ℕ → Type 0
 LacksEnabled word = (value : List ℕ) → word ≢ codes "enabled=" ++ value
 
--- no word; words that say a statement; or words that end too early. Such words begin a line, as far as their reader can tell
-pub data BeginsLine (before : List DraftStatement) : Words → Type 0 where
-  no_word_yet : BeginsLine before []
-  says_one : (words : Words) (statement : Draft) → LineSays before words statement → BeginsLine before words
-  ends_early : (words : Words) → draft_of before words ≡ Err MissingWord → BeginsLine before words
+-- these words begin a line: with some words behind them, or none, they say a statement
+pub record BeginsLine (before : List DraftStatement) (words : Words) : Type 0 where
+  pub behind : Words
+  pub statement : Draft
+  pub says : LineSays before (words ++ behind) statement
 
 -- the words are refused for this cause, whatever words stand behind them, as far as these don't say whether an operation is enabled
 abbrev pub StaysRefused : List DraftStatement → Words → ParseCause → Type 0
@@ -31,3 +33,18 @@ pub record FirstFault (before : List DraftStatement) (words : Words) (cause : Pa
   pub words_are : words ≡ front ++ word ∷ behind
   pub begins : BeginsLine before front
   pub faulty : StaysRefused before (front ++ word ∷ []) cause
+
+-- words that end in a section without a pair: in its word, or in `op` and a name
+pub data EndsInBareSection : Words → Type 0 where
+  bare_section : (words : Words) (section : SectionWord) → section ≢ Op → EndsInBareSection (words ++ section_text section ∷ [])
+  bare_operation : (words : Words) (name : List ℕ) → EndsInBareSection (words ++ codes "op" ∷ name ∷ [])
+
+-- a section has no pair and stands before another section word: the words up to it begin a line, and with that word no line does
+pub record LacksPair (before : List DraftStatement) (words : Words) : Type 0 where
+  pub front : Words
+  pub next : SectionWord
+  pub behind : Words
+  pub words_are : words ≡ front ++ section_text next ∷ behind
+  pub bare : EndsInBareSection front
+  pub begins : BeginsLine before front
+  pub closed : (more : Words) (statement : Draft) → LineSays before (front ++ section_text next ∷ more) statement → ⊥

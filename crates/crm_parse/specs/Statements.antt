@@ -1,30 +1,28 @@
 -- The statements of a text, line by line (crmsh manual, configure).
-use Rattle.std.specs.Prelude.{ℕ, ◌||◌, Bool, true, false, if◌then◌else◌, List, [], ◌∷◌, ◌++◌, map, codes, Option, Some, None, Result, Ok, Err}
-use Rattle.std.specs.List.{flat_map, list_any}
+use Rattle.std.specs.Prelude.{ℕ, ◌||◌, Bool, true, false, if◌then◌else◌, List, [], ◌∷◌, ◌++◌, map, codes, Result, Ok, Err}
+use Rattle.std.specs.List.{flat_map}
 use Rattle.std.specs.Option.{option_map_or}
 use Rattle.crm_lex.specs.Names.{is}
 use Rattle.crm_lex.specs.declared.line.Line.{Line}
 use Rattle.crm_parse.specs.declared.draft.Draft.{Draft}
 use Rattle.crm_parse.specs.declared.draft.Draft.TheVariants as draft
 use Rattle.crm_parse.specs.declared.draft.DraftStatement.{DraftStatement}
-use Rattle.crm_parse.specs.declared.draft.StepDraft.{StepDraft}
 use Rattle.crm_parse.specs.declared.fault.ParseCause.{ParseCause}
 use Rattle.crm_parse.specs.declared.fault.ParseCause.TheVariants.{UnknownStatement, Unsupported}
 use Rattle.faults.specs.declared.fault.Fault.{Fault}
 use Rattle.faults.specs.declared.fault.Fault.TheVariants.{At}
 use Rattle.crm_parse.specs.declared.form.Form.{Form}
 use Rattle.crm_parse.specs.declared.form.Form.TheVariants as form
-use Rattle.crm_parse.specs.declared.form.OrderStep.{OrderStep}
 use Rattle.crm_parse.specs.declared.keyword.Keyword.{Keyword}
 use Rattle.crm_parse.specs.declared.keyword.Keyword.TheVariants as keyword
 use Rattle.crm_parse.specs.declared.pair.Kv.{Kv}
 use Rattle.crm_parse.specs.declared.statement.Crm.{Crm}
 use Rattle.crm_parse.specs.declared.statement.Statement.{Statement}
-use Rattle.crm_parse.specs.declared.words.ActionWord.{ActionWord}
-use Rattle.crm_parse.specs.declared.words.ActionWord.TheVariants.{Start, Stop, Promote, Demote}
+use Rattle.crm_parse.specs.declared.words.ActionWord.TheVariants.{Start}
 use Rattle.crm_parse.specs.declared.words.SettingsWord.TheVariants.{Property, RscDefaults, OpDefaults}
 use Rattle.crm_parse.specs.Colocation.{colocation_at}
 use Rattle.crm_parse.specs.Groups.{clone_at, group_at}
+use Rattle.crm_parse.specs.Inner.StepActions.{with_actions}
 use Rattle.crm_parse.specs.Location.{location_at}
 use Rattle.crm_parse.specs.Node.{node_statement_at}
 use Rattle.crm_parse.specs.Operations.{value_of}
@@ -123,32 +121,6 @@ promotable_in _ = []
 -- the resources that have a promoted role by some statements
 abbrev pub promotable_by : List DraftStatement → Words
 promotable_by drafts = flat_map (λ statement. promotable_in statement.draft) drafts
-
--- the action of a resource without a promoted role in the place of one
-abbrev pub unpromoted : ActionWord → ActionWord
-unpromoted Promote = Start
-unpromoted Demote = Stop
-unpromoted action = action
-
--- the action that a resource takes from the one before it
-abbrev pub taken_action : Words → ActionWord → List ℕ → ActionWord
-taken_action promotable before resource =
-    if list_any (λ name. is name resource) promotable then before else unpromoted before
-
--- the action of a resource of an order: the one that was written, else that of the resource before it
-abbrev pub action_in : Words → ActionWord → List ℕ → Option ActionWord → ActionWord
-action_in promotable before resource (Some action) = action
-action_in promotable before resource None = taken_action promotable before resource
-
-abbrev pub action_after : Words → ActionWord → StepDraft → ActionWord
-action_after promotable before step = action_in promotable before step.resource step.action
-
--- some resources of an order with their actions, and those that follow
-abbrev pub with_actions : Words → ActionWord → List OrderStep → List StepDraft → List OrderStep
-with_actions promotable before done [] = done
-with_actions promotable before done (step ∷ steps) =
-    let action = action_after promotable before step in
-    with_actions promotable action (done ++ record { resource = step.resource; action = action } ∷ []) steps
 
 -- what a statement says, where these resources have a promoted role
 abbrev pub finished : Words → Draft → Form

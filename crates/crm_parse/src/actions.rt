@@ -3,7 +3,9 @@
 ghost use Rattle.std.specs.Prelude.{◌≡◌, ◌++◌, [], IfOk, false};
 ghost use Rattle.std.specs.Option.{option_copied, option_map_or};
 ghost use Rattle.crm_parse.specs.declared.words.ActionWord.TheVariants.{Start};
-ghost use Rattle.crm_parse.specs.Statements.{action_after, finished, says_promotable, promotable_by, promotable_in, taken_action, unpromoted, with_actions};
+ghost use Rattle.crm_parse.specs.Inner.StepActions.{action_after, with_actions};
+ghost use Rattle.crm_parse.specs.OrderActions.{taken_action, unpromoted};
+ghost use Rattle.crm_parse.specs.Statements.{finished, says_promotable, promotable_by, promotable_in};
 ghost use Rattle.crm_parse.specs.Values.{bool_of};
 
 use crate::draft::{Draft, DraftStatement, StepDraft};

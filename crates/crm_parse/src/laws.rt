@@ -1,6 +1,6 @@
 //! A line is read as a statement just when its words say that statement.
 
-ghost use Rattle.std.specs.Prelude.{◌≡◌, ◌≢◌, ◌↔◌, ℕ, Bool, List, [], Ok, Err};
+ghost use Rattle.std.specs.Prelude.{◌≡◌, ◌≢◌, ◌↔◌, ◌⊎◌, ℕ, Bool, List, [], Ok, Err};
 ghost use Rattle.std.specs.List.{AllByRecursion};
 ghost use Rattle.crm_parse.specs.declared.draft.OrderDraft.{OrderDraft as OrderOf};
 ghost use Rattle.crm_parse.specs.declared.draft.Draft.{Draft as StatementOf};
@@ -11,7 +11,7 @@ ghost use Rattle.crm_parse.specs.declared.form.Form.{Form as FormOf};
 ghost use Rattle.crm_parse.specs.declared.words.SettingsWord.{SettingsWord as SettingsOf};
 ghost use Rattle.crm_lex.specs.declared.line.Line.{Line as LineOf};
 ghost use Rattle.crm_parse.specs.Colocation.{colocation_at};
-ghost use Rattle.crm_parse.specs.FirstFaults.{FirstFault, LacksEnabled, StaysRefused};
+ghost use Rattle.crm_parse.specs.FirstFaults.{BeginsLine, FirstFault, LacksEnabled, LacksPair, StaysRefused};
 ghost use Rattle.crm_parse.specs.Groups.{clone_at, group_at};
 ghost use Rattle.crm_parse.specs.Location.{location_at};
 ghost use Rattle.crm_parse.specs.Node.{node_statement_at};
@@ -102,8 +102,16 @@ pub fn a_fault_stays_whatever_stands_behind()
         → draft_of before words ≡ Err cause → StaysRefused before words cause }
 {}
 
-/// A line that is refused for another cause than a missing word has a first faulty word: the words before it begin a line, and with it they
-/// are refused for this cause, whatever stands behind. Lines that say whether an operation is enabled are named apart.
+/// A line that is refused for a missing word ends too early: with some words more it says a statement. Or a section has no pair and stands before
+/// another section word, and with that word no line says any.
+pub fn a_missing_word_is_missing_at_the_end_or_in_a_section()
+    ensures { (before : List DraftOf) (words : List (List ℕ)) → draft_of before words ≡ Err MissingWord
+        → BeginsLine before words ⊎ LacksPair before words }
+{}
+
+/// A line that is refused for another cause than a missing word has a first faulty word: with some words behind them the words before it say a
+/// statement, and with the faulty one they are refused for this cause, whatever stands behind. Lines that say whether an operation is enabled
+/// are named apart.
 pub fn a_refused_line_has_a_first_faulty_word()
     ensures { (before : List DraftOf) (words : List (List ℕ)) (cause : CauseOf) → words ≢ [] → cause ≢ MissingWord
         → AllByRecursion LacksEnabled words → draft_of before words ≡ Err cause → FirstFault before words cause }

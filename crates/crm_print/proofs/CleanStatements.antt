@@ -28,7 +28,8 @@ use Rattle.crm_parse.specs.Order.{order_at}
 use Rattle.crm_parse.specs.Primitive.{primitive_at}
 use Rattle.crm_parse.specs.Reading.{Words, name_at, score_of, next_word_in}
 use Rattle.crm_parse.specs.Settings.{settings_at}
-use Rattle.crm_parse.specs.Statements.{draft_after, draft_of, finished, keyword_of, order, whole, with_actions}
+use Rattle.crm_parse.specs.Inner.StepActions.{with_actions}
+use Rattle.crm_parse.specs.Statements.{draft_after, draft_of, finished, keyword_of, order, whole}
 use Rattle.crm_parse.specs.WordTexts.{action_word_text, bool_text, kind_text, settings_text}
 use Rattle.crm_parse.proofs.Binds.{name_at-ok}
 use Rattle.faults.proofs.Steps.{bind-ok}

@@ -14,7 +14,8 @@ use Rattle.crm_parse.specs.declared.words.KindWord.{KindWord}
 use Rattle.crm_parse.specs.declared.words.KindWord.TheVariants.{Mandatory, Optional, Serialize}
 use Rattle.crm_parse.specs.Order.{ends_steps, kind_at, kind_by_word, order_at, read_order_step, step_parts, order_steps_at, symmetrical_as, symmetrical_in, with_step, with_steps}
 use Rattle.crm_parse.specs.Reading.{Words}
-use Rattle.crm_parse.specs.Statements.{action_after, finished, with_actions}
+use Rattle.crm_parse.specs.Inner.StepActions.{action_after, with_actions}
+use Rattle.crm_parse.specs.Statements.{finished}
 use Rattle.crm_parse.specs.Values.{action_of, bool_of}
 use Rattle.crm_parse.specs.WordTexts.{action_word_text, bool_text, kind_text}
 use Rattle.crm_parse.proofs.Binds.{name_at-again}

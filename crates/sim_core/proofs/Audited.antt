@@ -11,7 +11,7 @@ use Rattle.cluster_types.specs.declared.journal.Answer.{Answer}
 use Rattle.cluster_types.specs.declared.journal.Journal.{Journal}
 use Rattle.cluster_types.specs.declared.run.RunLine.{RunLine}
 use Rattle.cluster_types.specs.Runs.{due, Runs, IsCutRun, IsWholeRun}
-use Rattle.graph_exec.specs.Replays.{IsStopped, IsTold, setting, sight}
+use Rattle.graph_exec.specs.Replays.{IsStopped, IsStoppedAsking, IsTold, setting, sight}
 use Rattle.graph_exec.specs.RunEnds.{unexpected, with_all}
 use Rattle.graph_exec.specs.Scripts.{ScriptOf}
 use Rattle.input_reading.specs.declared.run.text.RunTextLine.{RunTextLine}
@@ -21,7 +21,7 @@ use Rattle.sim_core.specs.declared.verdict.Clause.{Clause}
 use Rattle.sim_core.specs.declared.verdict.Clause.TheVariants as clause
 use Rattle.sim_core.specs.declared.verdict.Verdict.{Verdict}
 use Rattle.sim_core.specs.declared.verdict.Verdict.TheVariants.{Yes, No}
-use Rattle.sim_core.specs.Inner.Auditors.{PassesLines, StopsAtLine, audited_lines}
+use Rattle.sim_core.specs.Inner.Auditors.{PassesLines, HasSaidStop, audited_lines}
 use Rattle.sim_core.specs.Lawful.{IsWholeRunOfLines, Judges, answer_in, answers_of_lines, clause_of, line_number_at, other, said, undue}
 
 -- what stands behind some elements
@@ -52,7 +52,7 @@ module _ (c : Cluster) (journal : Journal) (lines : List RunTextLine) (after : �
   number_there told p = ap (λ ls. line_number_at ls now.place after) (p.lines_stay ∙ written)
 
   module _ (steady over over_now : Bool) (answers : List Answer) (are : answers ≡ answers_of_lines (said lines)) (rest : Option (List Answer)) (left : Journal)
-      (Stopped : List RunLine → RunLine → Type 0) (v : Verdict) where
+      (Stopped : List RunLine → Option RunLine → Type 0) (v : Verdict) where
     -- it is told the whole run
     pub whole_found : IsTold (PassesLines start now) Stopped (setting c journal.promotions true steady) journal.events (sight (Some answers) over) (sight rest over_now) left with_all
         → (now.place ≡ length now.lines.now → v ≡ Yes)
@@ -109,12 +109,12 @@ module _ (c : Cluster) (journal : Journal) (lines : List RunTextLine) (after : �
   -- it has stopped
   module _ (steady over over_now : Bool) (answers : List Answer) (are : answers ≡ answers_of_lines (said lines)) (rest : Option (List Answer)) (left : Journal)
       (Follows : List RunLine → Type 0) (v : Verdict)
-      (w : IsStopped Follows (StopsAtLine start now) (setting c journal.promotions true steady) journal.events (sight (Some answers) over) (sight rest over_now) left) where
-    pub due_kept : now.due ≡ Some (clause_of w.told.at)
+      (w : IsStopped Follows (HasSaidStop start now) (setting c journal.promotions true steady) journal.events (sight (Some answers) over) (sight rest over_now) left) where
+    due_kept : now.due ≡ Some (clause_of w.told.at)
     due_kept = w.told.stopped.due_is
 
-    pub other_found : ((kind : Clause) → now.due ≡ Some kind → v ≡ No (line_number_at now.lines.now now.place after) kind) → Judges c journal lines after v
-    other_found is_no =
+    stopped_found : ((kind : Clause) → now.due ≡ Some kind → v ≡ No (line_number_at now.lines.now now.place after) kind) → Judges c journal lines after v
+    stopped_found is_no =
         let p = w.told.stopped.passes in
         let told = w.lines ++ w.told.before in
         let passed = told_are told p in
@@ -141,3 +141,12 @@ module _ (c : Cluster) (journal : Journal) (lines : List RunTextLine) (after : �
           });
           number_is = number_there told p;
         })
+
+  -- it stops at a line alone
+  module _ (steady over over_now : Bool) (answers : List Answer) (are : answers ≡ answers_of_lines (said lines)) (rest : Option (List Answer)) (left : Journal)
+      (Follows : List RunLine → Type 0) (v : Verdict) where
+    pub other_found : IsStopped Follows (HasSaidStop start now) (setting c journal.promotions true steady) journal.events (sight (Some answers) over) (sight rest over_now) left
+        ⊎ IsStoppedAsking Follows (HasSaidStop start now) (setting c journal.promotions true steady) journal.events (sight (Some answers) over) (sight rest over_now) left
+        → ((kind : Clause) → now.due ≡ Some kind → v ≡ No (line_number_at now.lines.now now.place after) kind) → Judges c journal lines after v
+    other_found (inl w) is_no = stopped_found steady over over_now answers are rest left Follows v w is_no
+    other_found (inr w) is_no = absurd w.told

@@ -22,3 +22,4 @@ pub mod Audited
 pub mod FewLines
 pub mod Exclusive
 pub mod OneFault
+pub mod OwnAnswers

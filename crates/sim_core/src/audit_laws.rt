@@ -1,9 +1,12 @@
 //! What follows from the definitions of `specs/`, for every valid cluster.
 
-ghost use Rattle.std.specs.Prelude.{◌≡◌, ℕ, List};
+ghost use Rattle.std.specs.Prelude.{◌≡◌, ℕ, Bool, List, Option};
 ghost use Rattle.cluster_types.specs.declared.cluster.Cluster.{Cluster as ClusterOf};
+ghost use Rattle.cluster_types.specs.declared.journal.Answer.{Answer as AnswerOf};
+ghost use Rattle.cluster_types.specs.declared.journal.Event.{Event as EventOf};
 ghost use Rattle.cluster_types.specs.declared.journal.Journal.{Journal as JournalOf};
 ghost use Rattle.cluster_types.specs.declared.run.RunLine.{RunLine as LineOf};
+ghost use Rattle.cluster_types.specs.Runs.{IsWholeRun};
 ghost use Rattle.sim_core.specs.declared.verdict.Clause.{Clause as ClauseOf};
 ghost use Rattle.sim_core.specs.Lawful.{IsFaultyClause, IsLawfulRun};
 
@@ -17,4 +20,10 @@ pub fn faulty_runs_are_not_lawful()
 pub fn faulty_lines_are_unique()
     ensures { (c : ClusterOf) (journal : JournalOf) (lines : List LineOf) (one other : ℕ) (kind sort : ClauseOf)
         → IsFaultyClause c journal lines one kind → IsFaultyClause c journal lines other sort → (one ≡ other) × (kind ≡ sort) }
+{}
+
+/// The lines of a whole run are lawful, over answers that are told, and over those of a simulated cluster.
+pub fn whole_runs_are_lawful()
+    ensures { (c : ClusterOf) (journal : JournalOf) (whole : Bool) (rest : Option (List AnswerOf)) (lines : List LineOf) (left : List EventOf)
+        → IsWholeRun c journal.promotions whole journal.events rest lines left → IsLawfulRun c journal lines }
 {}

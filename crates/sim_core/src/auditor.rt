@@ -153,14 +153,16 @@ impl<'a> Auditor<'a> {
 
 impl<'a> Watcher for Auditor<'a> {
     ghost use Rattle.std.specs.Prelude.{◌≡◌};
-    ghost use Rattle.sim_core.specs.Inner.Auditors.{PassesLines, StopsAtLine, audited_cluster, ShowsRun};
-    ghost use Rattle.sim_core.specs.Inner.AuditorLaws.{passes_itself, passes_then, stops_later};
+    ghost use Rattle.sim_core.specs.Inner.Auditors.{PassesLines, HasSaidStop, audited_cluster, ShowsRun};
+    ghost use Rattle.sim_core.specs.Inner.AuditorLaws.{passes_itself, passes_then, stops_behind};
 
     ghost is_of = { λ a c. audited_cluster a ≡ c };
 
     ghost follows = { λ old new lines. PassesLines old new lines };
 
-    ghost stopped = { λ old new lines at. StopsAtLine old new lines at };
+    ghost stopped = { λ old new lines at. HasSaidStop old new lines at };
+
+    ghost quiet = { λ _. Unit {0} };
 
     ghost shown = { λ a heard v. ShowsRun a heard v };
 
@@ -185,9 +187,13 @@ impl<'a> Watcher for Auditor<'a> {
         self.hear(&RunLineRef::Aborted(transition))
     }
 
+    fn waits(&mut self) -> Heard {
+        Heard::Go
+    }
+
     ghost from_itself = { λ a. passes_itself a };
 
     ghost from_before = { λ first middle last lines more. passes_then first middle last lines more };
 
-    ghost stopped_later = { λ first middle last lines more at told. stops_later first middle last lines more told at };
+    ghost stopped_later = { λ first middle last lines more at told. stops_behind first middle last lines more told at };
 }

@@ -10,6 +10,7 @@ use Rattle.crm_parse.specs.declared.fault.ParseCause.{ParseCause}
 use Rattle.crm_parse.specs.declared.statement.Crm.{Crm}
 use Rattle.crm_parse.specs.Statements.{draft_of, read_of, statements_of, with_line, with_lines}
 use Rattle.crm_parse.proofs.LinesRead.{read_of-ok}
+use Rattle.crm_parse.proofs.Grammar.ActionsSaid.{crm-are, crm-is}
 use Rattle.crm_parse.specs.Grammar.Configurations.{ConfigurationSays, FirstSilentLine, GivesWhatLinesSay, RefusesFirstSilentLine, SaysStatements, no_line, one_more_line}
 use Rattle.crm_parse.proofs.Grammar.LineRelated.{line-is_read, line-is_said, no-statement, none-said}
 
@@ -113,10 +114,10 @@ read_of-err (Err found) fault e = let same : found ≡ fault = cc in ap (λ (f :
 text-said : (lines : List Line) (crm : Crm) → statements_of lines ≡ Ok crm → SaysStatements lines crm
 text-said lines crm e =
     let (drafts, read, same) = read_of-ok (with_lines [] lines) crm e in
-    record { statements = drafts; said = configuration-said [] [] lines drafts no_line read; finished = sym same }
+    record { said = drafts; lines_say = configuration-said [] [] lines drafts no_line read; statements_are = crm-are drafts crm (sym same) }
 
 text-read : (lines : List Line) (crm : Crm) → SaysStatements lines crm → statements_of lines ≡ Ok crm
-text-read lines crm h = ap read_of (configuration-read lines h.statements h.said) ∙ ap (λ (c : Crm). Ok c) (sym h.finished)
+text-read lines crm h = ap read_of (configuration-read lines h.said h.lines_say) ∙ ap (λ (c : Crm). Ok c) (sym (crm-is h.said crm h.statements_are))
 
 pub text-says : (lines : List Line) → GivesWhatLinesSay lines (statements_of lines)
 text-says lines crm = (text-said lines crm, text-read lines crm)

@@ -1,12 +1,14 @@
 -- `order ID [KIND: or SCORE:] RESOURCE[:ACTION] RESOURCE[:ACTION].. [symmetrical=BOOL]` (crmsh manual, order).
-use Rattle.std.specs.Prelude.{◌≡◌, ◌≤◌, ℕ, ℤ, pos, int_lt, Bool, true, false, List, ◌∷◌, ◌++◌, length, codes, Some, None}
+use Rattle.std.specs.Prelude.{◌≡◌, ◌≤◌, ℕ, ℤ, pos, int_lt, Bool, true, false, List, [], ◌∷◌, ◌++◌, length, codes, Some, None}
 use Rattle.score.specs.ScoreText.{read_score}
 use Rattle.crm_lex.specs.Names.{is_name}
 use Rattle.crm_parse.specs.declared.draft.OrderDraft.{OrderDraft}
 use Rattle.crm_parse.specs.declared.draft.StepDraft.{StepDraft}
+use Rattle.crm_parse.specs.declared.form.OrderStep.{OrderStep}
 use Rattle.crm_parse.specs.declared.words.ActionWord.{ActionWord}
 use Rattle.crm_parse.specs.declared.words.KindWord.{KindWord}
 use Rattle.crm_parse.specs.declared.words.KindWord.TheVariants.{Mandatory, Optional, Serialize}
+use Rattle.crm_parse.specs.OrderActions.{action_in}
 use Rattle.crm_parse.specs.Reading.{Words}
 use Rattle.crm_parse.specs.Values.{action_of, bool_of, kind_of}
 use Rattle.crm_parse.specs.Grammar.Phrases.{ColonSays, EachSays, LabelSays, SaysOr, TableSays}
@@ -40,3 +42,10 @@ pub record OrderSays (words : Words) (order : OrderDraft) : Type 0 where
   pub two_or_more : 2 ≤ length order.steps
   pub symmetrical : SaysOr (LabelSays (codes "symmetrical=") (TableSays bool_of)) (symmetrical_unsaid order.kind) last_words order.symmetrical
   pub serialize_is_one_way : order.kind ≡ Serialize → order.symmetrical ≡ false
+
+-- the resources of an order with their actions, where these have a promoted role and this is the action before the first one: each has the action that is
+-- written, else it takes that of the resource before it
+pub data ActionsAre (promotable : Words) : ActionWord → List StepDraft → List OrderStep → Type 0 where
+  no_step : (before : ActionWord) → ActionsAre promotable before [] []
+  next_step : (before action : ActionWord) (step : StepDraft) (steps : List StepDraft) (others : List OrderStep) → action ≡ action_in promotable before step.resource step.action
+      → ActionsAre promotable action steps others → ActionsAre promotable before (step ∷ steps) (record { resource = step.resource; action = action } ∷ others)

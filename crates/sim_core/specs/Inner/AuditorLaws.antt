@@ -1,9 +1,9 @@
 -- An auditor has come from itself, and from what it came from on the way. No public clause cites this module.
-use Rattle.std.proofs.Common.{◌≡◌, List, [], ◌++◌, length, take, append-nil, append_assoc, refl, sym, ap, subst, ◌∙◌, ◌≤◌}
+use Rattle.std.proofs.Common.{◌≡◌, Option, Some, None, List, [], ◌++◌, length, take, append-nil, append_assoc, refl, sym, ap, subst, ◌∙◌, ◌≤◌}
 use Rattle.cluster_types.specs.declared.run.RunLine.{RunLine}
 use Rattle.input_reading.specs.declared.run.text.RunTextLine.{RunTextLine}
 use Rattle.sim_core.specs.declared.auditor.Auditor.{Auditor}
-use Rattle.sim_core.specs.Inner.Auditors.{PassesLines, StopsAtLine, audited_lines}
+use Rattle.sim_core.specs.Inner.Auditors.{PassesLines, HasSaidStop, StopsAtLine, audited_lines}
 
 pub passes_itself : (a : Auditor) → PassesLines a a []
 passes_itself a = record { cluster_stays = refl; lines_stay = refl; within = λ h. h; passed = sym (append-nil (take a.place (audited_lines a))) }
@@ -19,3 +19,7 @@ module _ (first middle last : Auditor) (lines more : List RunLine) (a : PassesLi
 
   pub stops_later : (at : RunLine) → StopsAtLine middle last more at → StopsAtLine first last (lines ++ more) at
   stops_later at b = record { passes = passes_then b.passes; different = b.different; due_is = b.due_is }
+
+  pub stops_behind : (at : Option RunLine) → HasSaidStop middle last more at → HasSaidStop first last (lines ++ more) at
+  stops_behind (Some at) b = stops_later at b
+  stops_behind None b = b

@@ -1,5 +1,5 @@
 -- What an auditor has come to, which compares the lines of a run with written ones (rule of this project). No public clause cites this module.
-use Rattle.std.specs.Prelude.{◌≡◌, ◌≢◌, ◌≤◌, Bool, true, false, Some, List, [], ◌++◌, length, take, filter, slice_get}
+use Rattle.std.specs.Prelude.{◌≡◌, ◌≢◌, ◌≤◌, Bool, true, false, Option, Some, None, List, [], ◌++◌, length, take, filter, slice_get}
 use Rattle.std.specs.List.{flat_map}
 use Rattle.cluster_types.specs.declared.cluster.Cluster.{Cluster}
 use Rattle.cluster_types.specs.declared.journal.Event.{Event}
@@ -54,3 +54,8 @@ pub record StopsAtLine (old new : Auditor) (lines : List RunLine) (at : RunLine)
   pub passes : PassesLines old new lines
   pub different : slice_get (audited_lines new) new.place ≢ Some at
   pub due_is : new.due ≡ Some (clause_of at)
+
+-- it has stopped so where it was told a line. Before a question to the source it always goes on
+abbrev pub HasSaidStop : Auditor → Auditor → List RunLine → Option RunLine → Type 0
+HasSaidStop old new lines (Some at) = StopsAtLine old new lines at
+HasSaidStop old new lines None = ⊥

@@ -1,6 +1,6 @@
 use Rattle.std.proofs.Common.{◌≡◌, [], drop}
 use Rattle.crm_parse.specs.declared.words.ActionWord.TheVariants.{Start}
-use Rattle.crm_parse.specs.Statements.{with_actions}
+use Rattle.crm_parse.specs.Inner.StepActions.{with_actions}
 use Rattle.crm_parse.proofs.actions.with_actions.Given as goal
 
 abbrev pub invariant-loop-step : goal.invariant-loop-step

@@ -1,0 +1,23 @@
+-- The action of a resource of an order that none is written at (crmsh manual, order; what a resource without a promoted role takes is a rule of this project).
+use Rattle.std.specs.Prelude.{ℕ, if◌then◌else◌, List, Option, Some, None}
+use Rattle.std.specs.List.{list_any}
+use Rattle.crm_lex.specs.Names.{is}
+use Rattle.crm_parse.specs.declared.words.ActionWord.{ActionWord}
+use Rattle.crm_parse.specs.declared.words.ActionWord.TheVariants.{Start, Stop, Promote, Demote}
+use Rattle.crm_parse.specs.Reading.{Words}
+
+-- the action of a resource without a promoted role in the place of one
+abbrev pub unpromoted : ActionWord → ActionWord
+unpromoted Promote = Start
+unpromoted Demote = Stop
+unpromoted action = action
+
+-- the action that a resource takes from the one before it
+abbrev pub taken_action : Words → ActionWord → List ℕ → ActionWord
+taken_action promotable before resource =
+    if list_any (λ name. is name resource) promotable then before else unpromoted before
+
+-- the action of a resource of an order: the one that was written, else that of the resource before it
+abbrev pub action_in : Words → ActionWord → List ℕ → Option ActionWord → ActionWord
+action_in promotable before resource (Some action) = action
+action_in promotable before resource None = taken_action promotable before resource
