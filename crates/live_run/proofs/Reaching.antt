@@ -504,7 +504,7 @@ module _ (c : Cluster) (journal : Journal) (reading : Reading) where
         record {
           call = in_run (record {
             printed = w.lines;
-            written = w.call;
+            told = w.call;
             closing = w.closing;
             journal_now = j.events;
             given = g.given;
@@ -551,12 +551,12 @@ module _ (c : Cluster) (journal : Journal) (reading : Reading) where
         by end.TooLarge put = absurd put
         by end.ReadFault put = absurd put
 
-    -- memory is said to be out where so many transitions were made as are never made
-    most_never : (before after old new : Option (List ℕ)) (t : SourceState) (was is : Bool) (j : Journal)
+    -- so many transitions are never made
+    most_never : (before after old new : Option (List ℕ)) (t : SourceState) (was is : Bool) (j : Journal) (how : LiveEnd)
         → replays.IsTold Follows Stopped (along before after old new t was is) journal.events (sight (rest_of (told_by start before)) was) (sight (rest_of (told_by t after)) is) j (at_most 10001)
-        → reaches before after old new t was is end.NoMemory
-    most_never None after old new t was is j w = tt
-    most_never (Some left) after old new t was is j w =
+        → reaches before after old new t was is how
+    most_never None after old new t was is j how w = tt
+    most_never (Some left) after old new t was is j how w =
         let coming = results_behind c journal reading left in
         let count = few_results c start.lines (raw_lines (reading.held ++ left)) (omega arith) in
         let size : length (answers_to_come coming) ≡ length coming.results = answers_size coming.results in
@@ -646,9 +646,9 @@ module _ (c : Cluster) (journal : Journal) (reading : Reading) (s t : SourceStat
       → (how : LiveEnd) → EndsWithoutMemory held how middle new → IfSome before (λ left. Reaches c journal reading left after old new how)
   between_from tells w f how e = between_reached c journal reading Follows Stopped before after old middle new held t was is (tells_so tells) (rw fresh at w) (rw fresh at f) how e
 
-  pub most_from : replays.IsTold Follows Stopped from journal.events (sight (rest_of (told_by s before)) was) (sight (rest_of (told_by t after)) is) j (at_most 10001)
-      → IfSome before (λ left. Reaches c journal reading left after old new end.NoMemory)
-  most_from w = most_never c journal reading Follows Stopped before after old new t was is j (rw fresh at w)
+  pub most_from : (how : LiveEnd) → replays.IsTold Follows Stopped from journal.events (sight (rest_of (told_by s before)) was) (sight (rest_of (told_by t after)) is) j (at_most 10001)
+      → IfSome before (λ left. Reaches c journal reading left after old new how)
+  most_from how w = most_never c journal reading Follows Stopped before after old new t was is j how (rw fresh at w)
 
 pub failed_kind : (exact : Bool) (v u : View) → HasQuestionFailed exact v u → HasBroken v.standing u.standing v.left u.left ⊎ HasStopped v.standing u.standing v.left u.left
 failed_kind exact v u (by_source h failed) = inl h

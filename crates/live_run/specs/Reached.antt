@@ -72,13 +72,13 @@ module _ (c : Cluster) (journal : Journal) (reading : Reading) (left : List ℕ)
   -- behind them, and this call isn't told it. The run has taken these answers by then
   pub record CallInRun : Type 0 where
     pub printed : List RunLine
-    pub written : List RunLine
+    pub told : List RunLine
     pub closing : List RunLine
     pub journal_now : List Event
     pub given : List ResultLine
     pub behind : List ResultLine
     pub split : results.results ≡ given ++ behind
-    pub run : IsStoppedRun c journal.promotions (is_none results.stop) journal.events (Some (answers_to_come results)) printed written closing journal_now
+    pub run : IsStoppedRun c journal.promotions (is_none results.stop) journal.events (Some (answers_to_come results)) printed told closing journal_now
         (Some (map (λ (r : ResultLine). r.answer) behind))
 
   -- the call that writes `unexpected LINE` of the answer behind these, which doesn't apply
@@ -96,8 +96,8 @@ module _ (c : Cluster) (journal : Journal) (reading : Reading) (left : List ℕ)
     pub stop : results.stop ≡ Some (why.Refused line cause)
     pub run : AsksForMore c journal results printed
 
-  -- the call that writes what is held back where the run asks for an answer, or stands between two transitions. The run has taken answers by then, and
-  -- asks for one more at most
+  -- the call that writes what is held back where the run asks for an answer, or stands between two transitions. The run has taken answers by then. The
+  -- line that is refused, if one is, was asked for too, or none behind these
   pub record CallAtRest : Type 0 where
     pub printed : List RunLine
     pub at : RunStanding
@@ -132,7 +132,7 @@ module _ (c : Cluster) (journal : Journal) (reading : Reading) (left : List ℕ)
 
   -- what it adds to these
   abbrev pub text_of_call : WriterCall → List ℕ
-  text_of_call (in_run call) = run_lines_text c call.written
+  text_of_call (in_run call) = run_lines_text c call.told
   text_of_call (at_rest call) = []
   text_of_call (of_unexpected call) = run_line c (line.Unexpected call.result.line)
   text_of_call (of_refusal call) = line_refusal_text call.line call.cause

@@ -69,6 +69,7 @@ impl<'c, 's, W: Sink> LineWriter<'c, 's, W> {
     /// All that is held back leaves: the run has no more lines.
     pub fn finish(&mut self) -> Result<(), WriteFault>
         ensures text { Puts result (writer_held self.old) (W.written (sink_of self.old)) (W.written (sink_of self.new)) }
+        ensures held { writer_held self.new ≡ [] }
         ensures bears { Bears W.counts_only_failures (IsErr result) (W.faults (sink_of self.old)) (W.faults (sink_of self.new)) }
         ensures same_sink { IsSameSink (writer_loan self.old) (writer_loan self.new) }
     {
@@ -80,6 +81,7 @@ impl<'c, 's, W: Sink> LineWriter<'c, 's, W> {
     pub fn unexpected(&mut self, line: u32) -> Result<(), WriteFault>
         ensures text { Puts result (writer_held self.old ++ texts.run_line (writer_cluster self.old) (told.Unexpected line))
             (W.written (sink_of self.old)) (W.written (sink_of self.new)) }
+        ensures held { writer_held self.new ≡ [] }
         ensures bears { Bears W.counts_only_failures (IsErr result) (W.faults (sink_of self.old)) (W.faults (sink_of self.new)) }
         ensures same_sink { IsSameSink (writer_loan self.old) (writer_loan self.new) }
     {
@@ -95,6 +97,7 @@ impl<'c, 's, W: Sink> LineWriter<'c, 's, W> {
     /// Writes `refused LINE CAUSE` behind all that is held back: the last line of a run that asks for a line which isn't read.
     pub fn refused(&mut self, line: u32, cause: LineCause) -> Result<(), WriteFault>
         ensures text { Puts result (writer_held self.old ++ line_refusal_text line cause) (W.written (sink_of self.old)) (W.written (sink_of self.new)) }
+        ensures held { writer_held self.new ≡ [] }
         ensures bears { Bears W.counts_only_failures (IsErr result) (W.faults (sink_of self.old)) (W.faults (sink_of self.new)) }
         ensures same_sink { IsSameSink (writer_loan self.old) (writer_loan self.new) }
     {

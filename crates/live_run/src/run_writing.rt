@@ -34,6 +34,7 @@ pub(crate) fn push<W: Sink>(
 ) -> Result<(), WriteFault>
     requires { length line.now ≤ 1024 }
     ensures text { PutsBehind result line.now held.old held.new (W.written sink.old) (W.written sink.new) }
+    ensures none_held { IsErr result → held.new ≡ [] }
     ensures bears { Bears W.counts_only_failures (IsErr result) (W.faults sink.old) (W.faults sink.new) }
 {
     if held.has_room(line.len()) {
@@ -56,6 +57,7 @@ pub(crate) fn put<W: Sink>(
     requires names { HasShortNames cluster.now }
     requires reason { HasName line.now }
     ensures text { PutsBehind result (texts.run_line cluster.now (lent_line line.now)) held.old held.new (W.written sink.old) (W.written sink.new) }
+    ensures none_held { IsErr result → held.new ≡ [] }
     ensures bears { Bears W.counts_only_failures (IsErr result) (W.faults sink.old) (W.faults sink.new) }
 {
     write_line(cluster, line, buf);
@@ -114,6 +116,7 @@ pub(crate) fn put_last<W: Sink>(
     requires names { HasShortNames cluster.now }
     requires reason { HasName line.now }
     ensures text { Puts result (held.old ++ texts.run_line cluster.now (lent_line line.now)) (W.written sink.old) (W.written sink.new) }
+    ensures held { held.new ≡ [] }
     ensures bears { Bears W.counts_only_failures (IsErr result) (W.faults sink.old) (W.faults sink.new) }
 {
     put(cluster, sink, held, buf, line)?;
@@ -129,6 +132,7 @@ pub(crate) fn put_refusal<W: Sink>(
     cause: LineCause,
 ) -> Result<(), WriteFault>
     ensures text { Puts result (held.old ++ line_refusal_text line cause) (W.written sink.old) (W.written sink.new) }
+    ensures held { held.new ≡ [] }
     ensures bears { Bears W.counts_only_failures (IsErr result) (W.faults sink.old) (W.faults sink.new) }
 {
     write_refusal(buf, line, cause);

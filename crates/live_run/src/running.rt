@@ -134,7 +134,7 @@ fn run_to_end<S: Source, W: Sink>(
         // Each transition but the last takes a result line: so many are never made.
         Err(ReplayStop::Most(journal)) => {
             drop(journal);
-            LiveEnd::NoMemory
+            end_without_memory(writer)
         }
         Err(ReplayStop::NoMemory) => end_without_memory(writer),
     }

@@ -47,14 +47,14 @@ returns-in-Err-Most-clause-reaches g c =
     most_from c.args.cluster.now c.args.journal (standing_of c.args.outcomes.now).lines.reading (standing_of c.args.outcomes.now)
     (standing_of c.replay_watched.new.outcomes) (writer_cluster c.args.writer.now) c.requires.fresh c.requires.names (g.S.Source.left (outcomes_source c.args.outcomes.now))
     (g.S.Source.left (outcomes_source c.replay_watched.new.outcomes)) (g.W.Sink.written (sink_of c.args.writer.now)) (g.W.Sink.written (sink_of c.replay_watched.new.watcher))
-    (g.W.Sink.written (sink_of c.replay_watched.new.watcher)) (writer_held c.replay_watched.new.watcher) (has_course_ended (standing_of c.args.outcomes.now).course) (has_course_ended (standing_of c.replay_watched.new.outcomes).course)
-    c.in-Err-Most.journal _ _ (rw c.in-Err-Most.field-0-is at c.in-Err-Most.ensures.run)
+    (g.W.Sink.written (sink_of c.end_without_memory-in-Err-Most.new.writer)) (writer_held c.replay_watched.new.watcher) (has_course_ended (standing_of c.args.outcomes.now).course) (has_course_ended (standing_of c.replay_watched.new.outcomes).course)
+    c.in-Err-Most.journal _ _ c.end_without_memory-in-Err-Most.result (rw c.in-Err-Most.field-0-is at c.in-Err-Most.ensures.run)
 
 pub returns-in-Err-NoMemory-clause-reaches : goal.returns-in-Err-NoMemory-clause-reaches
 returns-in-Err-NoMemory-clause-reaches g c =
     between_from c.args.cluster.now c.args.journal (standing_of c.args.outcomes.now).lines.reading (standing_of c.args.outcomes.now)
     (standing_of c.replay_watched.new.outcomes) (writer_cluster c.args.writer.now) c.requires.fresh c.requires.names (g.S.Source.left (outcomes_source c.args.outcomes.now))
     (g.S.Source.left (outcomes_source c.replay_watched.new.outcomes)) (g.W.Sink.written (sink_of c.args.writer.now)) (g.W.Sink.written (sink_of c.replay_watched.new.watcher))
-    (g.W.Sink.written (sink_of c.end_without_memory.new.writer)) (writer_held c.replay_watched.new.watcher) (has_course_ended (standing_of c.args.outcomes.now).course) (has_course_ended (standing_of c.replay_watched.new.outcomes).course)
+    (g.W.Sink.written (sink_of c.end_without_memory-in-Err-NoMemory.new.writer)) (writer_held c.replay_watched.new.watcher) (has_course_ended (standing_of c.args.outcomes.now).course) (has_course_ended (standing_of c.replay_watched.new.outcomes).course)
     c.args.journal _ _ (λ lines told. rw c.requires.empty at told.text) (rw c.in-Err-NoMemory.field-0-is at c.in-Err-NoMemory.ensures.run)
-    (rw c.in-Err-NoMemory.field-0-is at c.in-Err-NoMemory.ensures.source).came.follows c.end_without_memory.result c.end_without_memory.ensures.text
+    (rw c.in-Err-NoMemory.field-0-is at c.in-Err-NoMemory.ensures.source).came.follows c.end_without_memory-in-Err-NoMemory.result c.end_without_memory-in-Err-NoMemory.ensures.text
