@@ -67,7 +67,7 @@ module _ (s : Setting) where
             (stop_behind one.lines (lines ++ t.before) (Some t.at) one.told t.stopped);
       }
 
-      pub ends_on : (end : Result Journal ReplayStop) → (s.steady ≡ true → a.over ≡ true → b.over ≡ true) → RunEndsAs Then s middle b c StopThen end
+      pub ends_on : (end : Result Journal (ReplayStop Journal)) → (s.steady ≡ true → a.over ≡ true → b.over ≡ true) → RunEndsAs Then s middle b c StopThen end
           → RunEndsAs All s from a c StopAll end
       ends_on (Ok journal) stays w = record {
         last = w.last;

@@ -1,6 +1,6 @@
 -- What comes of a question while nothing is to be done, and how a run ends, where it is kept.
 use Rattle.std.proofs.Common.{arith, ◌≡◌, ◌<◌, ◌≤◌, ◌+◌, ℕ, Bool, true, false, List, [], ◌∷◌, ◌++◌, length, append-nil, refl, sym, ap, ◌∙◌, subst}
-use Rattle.std.specs.Prelude.{Option, Some, None}
+use Rattle.std.specs.Prelude.{Option, Some, None, Result, Ok, Err}
 use Rattle.std.specs.List.{AllByRecursion, flat_map}
 use Rattle.lemmas.proofs.Booleans.{fails_too}
 use Rattle.cluster_types.specs.declared.cluster.Cluster.{Cluster}
@@ -27,11 +27,11 @@ use Rattle.run_safety.proofs.Kept.{between_passed}
 use Rattle.run_safety.proofs.Printed.{answer_line}
 use Rattle.run_safety.proofs.Rests.{at_rest, in_order}
 use Rattle.run_safety.proofs.SoFar.{runs_joined, runs_once}
-use Rattle.graph_exec.specs.declared.run.run_ending.RunEnd.{RunEnd}
-use Rattle.graph_exec.specs.declared.run.run_ending.RunEnd.TheVariants as run
-use Rattle.graph_exec.specs.Inner.Keeping.{IsUnanswered, KeepsPassed, KeepsEnd, KeepsTo, kept_end, watched_end}
-use Rattle.graph_exec.specs.Kept.{IsExpectedRun, IsPassedOfPlan, KeepsAs, KeepsPlans, OfRun}
-use Rattle.graph_exec.specs.Replays.{Setting, AgreesWith, IsReplayExpected, IsJournalKept, OfJournal}
+use Rattle.graph_exec.specs.declared.run.stop.ReplayStop.{ReplayStop}
+use Rattle.graph_exec.specs.declared.run.stop.ReplayStop.TheVariants as stop
+use Rattle.graph_exec.specs.Inner.Keeping.{IsUnanswered, KeepsPassed, KeepsEnd, KeepsTo, kept_end}
+use Rattle.graph_exec.specs.Kept.{IsPassedOfPlan, KeepsAs, KeepsPlans}
+use Rattle.graph_exec.specs.Replays.{Setting, AgreesWith, IsReplayExpected, IsJournalKept, OfMade}
 use Rattle.graph_exec.specs.Inner.Turns.{IsSaid, journal_back, plain_of}
 use Rattle.graph_exec.proofs.Joined.{said_none, said_then}
 use Rattle.graph_exec.proofs.KeptPlans.{each_more, within_each}
@@ -80,8 +80,8 @@ module _ (s : Setting) (es : List Event) (first : Option (List Answer)) where
         subst (λ (x : List Event). KeepsPassed s es first left over_now passed (due (k + 1) x)) events there
 
     -- none comes that applies
-    pub kept_unanswered : (like : j.promotions ≡ s.promotions) (end : RunEnd) → IsUnanswered s.whole j rest left over end → KeepsEnd s es first left passed end
-    kept_unanswered like (run.Whole journal) w =
+    pub kept_unanswered : (like : j.promotions ≡ s.promotions) (end : Result Journal (ReplayStop Journal)) → IsUnanswered s.whole j rest left over end → KeepsEnd s es first left passed end
+    kept_unanswered like (Ok journal) w =
         let stays = stays_said s.whole rest left None refl w.said in
         record {
           last = idle k j.events;
@@ -89,7 +89,7 @@ module _ (s : Setting) (es : List Event) (first : Option (List Answer)) where
           over = subst (λ (x : Option (List Answer)). Says s.whole x None left) (sym stays) w.said;
           leaves = w.leaves ∙ ap (λ (x : List Promotion). record { events = j.events; promotions = x }) like;
         }
-    kept_unanswered like (run.Unexpected journal given) w = record {
+    kept_unanswered like (Err (stop.Unexpected journal given)) w = record {
       last = idle k j.events;
       unread = rest;
       keeps = unsaid rest over passed (idle k j.events) keeps;
@@ -100,7 +100,7 @@ module _ (s : Setting) (es : List Event) (first : Option (List Answer)) where
       };
       leaves = w.leaves ∙ ap plain_of w.refused.same ∙ ap (λ (x : List Promotion). record { events = j.events; promotions = x }) like;
     }
-    kept_unanswered like (run.SourceFault journal) w = record {
+    kept_unanswered like (Err (stop.SourceFault journal)) w = record {
       last = idle k j.events;
       keeps = record {
         runs = subst (λ (x : Option (List Answer)). Runs s.cluster s.promotions s.whole (due 1 es) first (all_passed_lines s.cluster j.events 1 passed) (idle k j.events) x)
@@ -112,7 +112,9 @@ module _ (s : Setting) (es : List Event) (first : Option (List Answer)) where
       asking = tt;
       leaves = w.leaves ∙ ap (λ (x : List Promotion). record { events = j.events; promotions = x }) like;
     }
-    kept_unanswered like run.NoMemory w = tt
+    kept_unanswered like (Err (stop.Stopped journal)) w = absurd w
+    kept_unanswered like (Err (stop.Most journal)) w = absurd w
+    kept_unanswered like (Err stop.NoMemory) w = tt
 
   module _ (left : Option (List Answer)) (passed : List Passed) where
     -- the same from the whole run's beginning
@@ -125,19 +127,19 @@ module _ (s : Setting) (es : List Event) (first : Option (List Answer)) where
     runs_there journal last rest over leaves keeps =
         subst (λ (x : List RunLine). Runs s.cluster s.promotions s.whole (due 1 es) first x last rest) (printed journal last leaves) keeps.runs
 
-    pub kept_as : (most : ℕ) (end : RunEnd) → KeepsEnd s es first left passed end → KeepsAs s.cluster s.promotions s.whole s.steady es first left most (kept_end passed end)
-    kept_as most (run.Whole journal) w = record {
+    pub kept_as : (most : ℕ) (end : Result Journal (ReplayStop Journal)) → KeepsEnd s es first left passed end → KeepsAs s.cluster s.promotions s.whole s.steady es first left most (kept_end passed end)
+    kept_as most (Ok journal) w = record {
       run = record { last = w.last; behind = left; steps = runs_there journal w.last left true w.leaves w.keeps; over = w.over; leaves = ap events_in w.leaves };
       unread = refl;
     }
-    kept_as most (run.Unexpected journal given) w = record {
+    kept_as most (Err (stop.Unexpected journal given)) w = record {
       last = w.last;
       unread = w.unread;
       steps = runs_there journal w.last w.unread true w.leaves w.keeps;
       cut = w.cut;
       leaves = ap events_in w.leaves;
     }
-    kept_as most (run.SourceFault journal) w = record {
+    kept_as most (Err (stop.SourceFault journal)) w = record {
       run = record { last = w.last; steps = runs_there journal w.last left false w.leaves w.keeps; asking = w.asking; leaves = ap events_in w.leaves };
       said = λ steady.
           let of = w.keeps.said steady refl in
@@ -153,18 +155,22 @@ module _ (s : Setting) (es : List Event) (first : Option (List Answer)) where
             };
           };
     }
-    kept_as most run.NoMemory w = tt
+    kept_as most (Err (stop.Stopped journal)) w = absurd w
+    kept_as most (Err (stop.Most journal)) w = absurd w
+    kept_as most (Err stop.NoMemory) w = tt
 
     each_there : (journal : Journal) (last : RunStanding) → journal ≡ journal_back s last → AllByRecursion (IsPassedOfPlan s.cluster s.promotions (journal_at last)) passed
         → AllByRecursion (IsPassedOfPlan s.cluster s.promotions journal.events) passed
     each_there journal last leaves each = subst (λ (x : Journal). AllByRecursion (IsPassedOfPlan s.cluster s.promotions x.events) passed) (sym leaves) each
 
-    pub kept_plans : (most : ℕ) → length passed ≤ most → (end : RunEnd) → KeepsEnd s es first left passed end
-        → OfRun (KeepsPlans s.cluster s.promotions most) (kept_end passed end)
-    kept_plans most few (run.Whole journal) w = record { each = each_there journal w.last w.leaves w.keeps.each; few = few }
-    kept_plans most few (run.Unexpected journal given) w = record { each = each_there journal w.last w.leaves w.keeps.each; few = few }
-    kept_plans most few (run.SourceFault journal) w = record { each = each_there journal w.last w.leaves w.keeps.each; few = few }
-    kept_plans most few run.NoMemory w = tt
+    pub kept_plans : (most : ℕ) → length passed ≤ most → (end : Result Journal (ReplayStop Journal)) → KeepsEnd s es first left passed end
+        → OfMade (KeepsPlans s.cluster s.promotions most) (kept_end passed end)
+    kept_plans most few (Ok journal) w = record { each = each_there journal w.last w.leaves w.keeps.each; few = few }
+    kept_plans most few (Err (stop.Unexpected journal given)) w = record { each = each_there journal w.last w.leaves w.keeps.each; few = few }
+    kept_plans most few (Err (stop.SourceFault journal)) w = record { each = each_there journal w.last w.leaves w.keeps.each; few = few }
+    kept_plans most few (Err (stop.Stopped journal)) w = absurd w
+    kept_plans most few (Err (stop.Most journal)) w = absurd w
+    kept_plans most few (Err stop.NoMemory) w = tt
 
     module _ (safe : IsSafeRun s.cluster s.promotions s.whole es first) where
       order_there : (journal : Journal) (last : RunStanding) (rest : Option (List Answer)) (over : Bool) → journal ≡ journal_back s last → KeepsPassed s es first rest over passed last
@@ -175,25 +181,31 @@ module _ (s : Setting) (es : List Event) (first : Option (List Answer)) where
         promotions_stay = ap (λ (x : Journal). x.promotions) leaves;
       }
 
-      pub kept_in_order : (end : RunEnd) → KeepsEnd s es first left passed end → OfRun (λ (made : Run). IsJournalKept s.promotions made.journal) (kept_end passed end)
-      kept_in_order (run.Whole journal) w = order_there journal w.last left true w.leaves w.keeps
-      kept_in_order (run.Unexpected journal given) w = order_there journal w.last w.unread true w.leaves w.keeps
-      kept_in_order (run.SourceFault journal) w = order_there journal w.last left false w.leaves w.keeps
-      kept_in_order run.NoMemory w = tt
+      pub kept_in_order : (end : Result Journal (ReplayStop Journal)) → KeepsEnd s es first left passed end → OfMade (λ (made : Run). IsJournalKept s.promotions made.journal) (kept_end passed end)
+      kept_in_order (Ok journal) w = order_there journal w.last left true w.leaves w.keeps
+      kept_in_order (Err (stop.Unexpected journal given)) w = order_there journal w.last w.unread true w.leaves w.keeps
+      kept_in_order (Err (stop.SourceFault journal)) w = order_there journal w.last left false w.leaves w.keeps
+      kept_in_order (Err (stop.Stopped journal)) w = absurd w
+      kept_in_order (Err (stop.Most journal)) w = absurd w
+      kept_in_order (Err stop.NoMemory) w = tt
 
 -- what is said of the end of a run holds where its transitions are kept
-pub agrees_kept : (passed : List Passed) (agrees : Cluster → List Event → ℕ → Type 0) (c : Cluster) (end : RunEnd) → OfJournal (AgreesWith agrees c) (watched_end end)
-    → OfRun (λ (made : Run). AgreesWith agrees c made.journal) (kept_end passed end)
-agrees_kept passed agrees c (run.Whole journal) h = h
-agrees_kept passed agrees c (run.Unexpected journal given) h = h
-agrees_kept passed agrees c (run.SourceFault journal) h = h
-agrees_kept passed agrees c run.NoMemory h = tt
+pub agrees_kept : (passed : List Passed) (agrees : Cluster → List Event → ℕ → Type 0) (c : Cluster) (end : Result Journal (ReplayStop Journal)) → OfMade (AgreesWith agrees c) end
+    → OfMade (λ (made : Run). AgreesWith agrees c made.journal) (kept_end passed end)
+agrees_kept passed agrees c (Ok journal) h = h
+agrees_kept passed agrees c (Err (stop.Unexpected journal given)) h = h
+agrees_kept passed agrees c (Err (stop.SourceFault journal)) h = h
+agrees_kept passed agrees c (Err (stop.Stopped journal)) h = h
+agrees_kept passed agrees c (Err (stop.Most journal)) h = h
+agrees_kept passed agrees c (Err stop.NoMemory) h = tt
 
-pub expected_kept : (passed : List Passed) (end : RunEnd) → IsReplayExpected (watched_end end) → IsExpectedRun (kept_end passed end)
-expected_kept passed (run.Whole journal) h = tt
-expected_kept passed (run.Unexpected journal given) h = h
-expected_kept passed (run.SourceFault journal) h = tt
-expected_kept passed run.NoMemory h = tt
+pub expected_kept : (passed : List Passed) (end : Result Journal (ReplayStop Journal)) → IsReplayExpected end → IsReplayExpected (kept_end passed end)
+expected_kept passed (Ok journal) h = tt
+expected_kept passed (Err (stop.Unexpected journal given)) h = h
+expected_kept passed (Err (stop.SourceFault journal)) h = tt
+expected_kept passed (Err (stop.Stopped journal)) h = tt
+expected_kept passed (Err (stop.Most journal)) h = tt
+expected_kept passed (Err stop.NoMemory) h = tt
 
 -- the run begins
 pub starts_kept : (s : Setting) (es : List Event) (first : Option (List Answer)) (over : Bool) (passed : List Passed) (j : JournalOf) → passed ≡ [] → j.events ≡ es

@@ -1,6 +1,6 @@
 -- A run that is kept goes on by one more transition.
 use Rattle.std.proofs.Common.{arith, ◌≡◌, ◌+◌, ℕ, Bool, true, false, List, [], ◌∷◌, ◌++◌, length, refl, sym, ap, ◌∙◌, subst}
-use Rattle.std.specs.Prelude.{Option, Some}
+use Rattle.std.specs.Prelude.{Option, Some, Result}
 use Rattle.std.specs.List.{AllByRecursion, flat_map}
 use Rattle.std.proofs.lemmas.List.{length-append}
 use Rattle.lemmas.proofs.Booleans.{fails_too}
@@ -33,7 +33,7 @@ use Rattle.graph_exec.proofs.Beginning.{found_so}
 use Rattle.graph_exec.proofs.Said.{taken_none}
 use Rattle.run_safety.proofs.Kept.{one_passed_more}
 use Rattle.run_safety.proofs.SoFar.{runs_joined, runs_once}
-use Rattle.graph_exec.specs.declared.run.run_ending.RunEnd.{RunEnd}
+use Rattle.graph_exec.specs.declared.run.stop.ReplayStop.{ReplayStop}
 use Rattle.graph_exec.specs.declared.run.idling.Taken.{Taken}
 use Rattle.graph_exec.specs.declared.run.planning.Planned.{Planned}
 use Rattle.graph_exec.specs.Inner.Keeping.{IsAnswered, IsUnanswered, KeepsPassed, KeepsCut, KeepsEnd, KeepsSoFar, KeepsTo}
@@ -198,7 +198,7 @@ module _ (j : JournalOf) (p : Planned) (ready : IsReady j p) (whole steady : Boo
 
         -- none came that applies
         pub ends_unanswered_there : how ≡ passed_as.Complete → IsComplete now → (later : JournalOf) → later ≡ running_journal now → (unread : Option (List Answer))
-            → (end : RunEnd) → IsUnanswered whole later left unread over_now end → KeepsEnd here_set es first unread all end
+            → (end : Result Journal (ReplayStop Journal)) → IsUnanswered whole later left unread over_now end → KeepsEnd here_set es first unread all end
         ends_unanswered_there e complete later known unread end w =
             kept_unanswered here_set es first left unread over_now all (1 + length passed) later
             (ap (λ (x : JournalOf). x.cluster) known ∙ ap (λ (r : Running). r.cluster) went_fresh.same) (idle_there e complete later known)

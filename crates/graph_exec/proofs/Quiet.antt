@@ -1,6 +1,6 @@
 -- What comes of a question while nothing is to be done.
 use Rattle.std.proofs.Common.{◌≡◌, ℕ, ◌+◌, Bool, false, List, [], ◌∷◌, ◌++◌, refl, sym, ap, ◌∙◌, subst}
-use Rattle.std.specs.Prelude.{Option, Some, None}
+use Rattle.std.specs.Prelude.{Option, Some, None, Result, Ok, Err}
 use Rattle.cluster_types.specs.declared.journal.Answer.{Answer}
 use Rattle.cluster_types.specs.declared.journal.Event.{Event}
 use Rattle.cluster_types.specs.declared.journal.Journal.{Journal}
@@ -13,9 +13,9 @@ use Rattle.graph_exec.specs.Logs.{JournalOf}
 use Rattle.graph_exec.specs.Resting.{IsRefusedResting, TookResting}
 use Rattle.graph_exec.proofs.Said.{taken_one}
 use Rattle.run_safety.proofs.SoFar.{runs_once}
-use Rattle.graph_exec.specs.declared.run.run_ending.RunEnd.{RunEnd}
-use Rattle.graph_exec.specs.declared.run.run_ending.RunEnd.TheVariants as run
-use Rattle.graph_exec.specs.Inner.Keeping.{HasRestingFailed, IsAnswered, IsRestingRefused, IsSilent, IsUnanswered, watched_end}
+use Rattle.graph_exec.specs.declared.run.stop.ReplayStop.{ReplayStop}
+use Rattle.graph_exec.specs.declared.run.stop.ReplayStop.TheVariants as stop
+use Rattle.graph_exec.specs.Inner.Keeping.{HasRestingFailed, IsAnswered, IsRestingRefused, IsSilent, IsUnanswered}
 use Rattle.graph_exec.specs.Replays.{Setting, setting, sight}
 use Rattle.graph_exec.specs.Inner.Turns.{HasComeTo, CameTo, RunEndsAs, EndsBroken, RunEndsCut, EndsStopped, EndsStoppedAsking, EndsWhole, IsSaid, plain_of}
 use Rattle.graph_exec.proofs.Joined.{came_step, said_none}
@@ -122,12 +122,14 @@ module _ (whole steady : Bool) (k : ℕ) (j : JournalOf) (rest : Option (List An
           }
 
       -- no answer came that applies
-      pub ends_unanswered : Follows [] → (Stopped : List RunLine → Option RunLine → Type 0) (end : RunEnd) → IsUnanswered whole j rest left over end
-          → RunEndsAs Follows here_set (idle k j.events) (sight rest over) (sight left over_now) Stopped (watched_end end)
-      ends_unanswered none Stopped (run.Whole journal) w = is_over none w.said journal w.leaves
-      ends_unanswered none Stopped (run.Unexpected journal given) w = is_cut given w.said none w.back w.refused journal w.leaves
-      ends_unanswered none Stopped (run.SourceFault journal) w = is_broken none w.left_is w.not_over journal w.leaves
-      ends_unanswered none Stopped run.NoMemory same = record { at = idle k j.events; lines = []; runs = runs_nowhere same; told = none; between = tt }
+      pub ends_unanswered : Follows [] → (Stopped : List RunLine → Option RunLine → Type 0) (end : Result Journal (ReplayStop Journal)) → IsUnanswered whole j rest left over end
+          → RunEndsAs Follows here_set (idle k j.events) (sight rest over) (sight left over_now) Stopped end
+      ends_unanswered none Stopped (Ok journal) w = is_over none w.said journal w.leaves
+      ends_unanswered none Stopped (Err (stop.Unexpected journal given)) w = is_cut given w.said none w.back w.refused journal w.leaves
+      ends_unanswered none Stopped (Err (stop.SourceFault journal)) w = is_broken none w.left_is w.not_over journal w.leaves
+      ends_unanswered none Stopped (Err (stop.Stopped journal)) w = absurd w
+      ends_unanswered none Stopped (Err (stop.Most journal)) w = absurd w
+      ends_unanswered none Stopped (Err stop.NoMemory) same = record { at = idle k j.events; lines = []; runs = runs_nowhere same; told = none; between = tt }
 
 -- what came of the question, put together
 module _ (whole : Bool) (j : JournalOf) (rest left : Option (List Answer)) where

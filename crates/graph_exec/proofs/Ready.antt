@@ -108,7 +108,7 @@ module _ (First Then All : List RunLine → Type 0) (join : (lines more : List R
 
     pub ends_behind : (StopThen StopAll : List RunLine → Option RunLine → Type 0)
         → ((lines more : List RunLine) (at : Option RunLine) → First lines → StopThen more at → StopAll (lines ++ more) at)
-        → (end : Result Journal ReplayStop) → (steady ≡ true → old.over ≡ true → now.over ≡ true) → RunEndsAs Then (setting d scores whole steady) at now new StopThen end
+        → (end : Result Journal (ReplayStop Journal)) → (steady ≡ true → old.over ≡ true → now.over ≡ true) → RunEndsAs Then (setting d scores whole steady) at now new StopThen end
         → RunEndsAs All (setting c promotions whole steady) from old new StopAll end
     ends_behind StopThen StopAll stop_behind end stays w =
         ends_on (setting c promotions whole steady) First Then All join from at old now new one StopThen StopAll stop_behind end stays

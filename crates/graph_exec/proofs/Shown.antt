@@ -1,6 +1,6 @@
 -- What a watcher has been shown, step by step.
 use Rattle.std.proofs.Common.{◌≡◌, ◌++◌, ◌∷◌, [], ℕ, Bool, true, Option, Some, None, List, append-nil, append_assoc, refl, sym, ap, subst, ◌∙◌}
-use Rattle.std.specs.Prelude.{Result}
+use Rattle.std.specs.Prelude.{Result, Ok, Err}
 use Rattle.std.specs.List.{flat_map}
 use Rattle.cluster_types.specs.declared.cluster.Cluster.{Cluster}
 use Rattle.cluster_types.specs.declared.journal.Action.{Action}
@@ -15,12 +15,11 @@ use Rattle.cluster_types.specs.Plans.{IsPlan}
 use Rattle.cluster_types.specs.Texts.{event_lines}
 use Rattle.cluster_types.specs.Steps.{answer_events, count_from_outside, in_flight_by_number, resting}
 use Rattle.graph_exec.specs.declared.run.planning.Planned.{Planned}
-use Rattle.graph_exec.specs.declared.run.run_ending.RunEnd.{RunEnd}
-use Rattle.graph_exec.specs.declared.run.run_ending.RunEnd.TheVariants as run
 use Rattle.graph_exec.specs.declared.run.stop.ReplayStop.{ReplayStop}
+use Rattle.graph_exec.specs.declared.run.stop.ReplayStop.TheVariants as stop
 use Rattle.graph_exec.specs.declared.transition.watcher.Heard.{Heard}
 use Rattle.graph_exec.specs.declared.transition.watcher.Heard.TheVariants as heard
-use Rattle.graph_exec.specs.Inner.Keeping.{IsUnanswered, watched_end}
+use Rattle.graph_exec.specs.Inner.Keeping.{IsUnanswered}
 use Rattle.graph_exec.specs.declared.transition.ends.WatchedEnd.{WatchedEnd}
 use Rattle.graph_exec.specs.declared.transition.ends.WatchedEnd.TheVariants as how
 use Rattle.graph_exec.specs.Inner.Rounds.{Answered, StopsAs}
@@ -123,18 +122,20 @@ module _ (r last : Running) (same : last ≡ record { cluster = r.cluster; graph
   shown_closing Now said h = record { plan = None; shown_last = shown_closed (Now said) h }
 
 -- no answer came that applies
-pub shown_unanswered : (Shown : Heard → RunView → Type 0) (j : JournalOf) (whole : Bool) (rest left : Option (List Answer)) (over : Bool) (end : RunEnd)
-    → IsUnanswered whole j rest left over end → Shown heard.Go (view_between j.cluster j.promotions j.events) → IsShownEnd Shown j.cluster j.promotions (watched_end end)
-shown_unanswered Shown j whole rest left over (run.Whole journal) w h =
+pub shown_unanswered : (Shown : Heard → RunView → Type 0) (j : JournalOf) (whole : Bool) (rest left : Option (List Answer)) (over : Bool) (end : Result Journal (ReplayStop Journal))
+    → IsUnanswered whole j rest left over end → Shown heard.Go (view_between j.cluster j.promotions j.events) → IsShownEnd Shown j.cluster j.promotions end
+shown_unanswered Shown j whole rest left over (Ok journal) w h =
     subst (λ (x : Journal). Shown heard.Go (view_between j.cluster j.promotions x.events)) (sym w.leaves) h
-shown_unanswered Shown j whole rest left over (run.Unexpected journal given) w h = record {
+shown_unanswered Shown j whole rest left over (Err (stop.Unexpected journal given)) w h = record {
   plan = None;
   shown_last = subst (λ (x : Journal). Shown heard.Go (view_between j.cluster j.promotions x.events)) (sym w.leaves)
       (subst (λ (x : JournalOf). Shown heard.Go (view_between j.cluster j.promotions x.events)) (sym w.refused.same) h);
 }
-shown_unanswered Shown j whole rest left over (run.SourceFault journal) w h =
+shown_unanswered Shown j whole rest left over (Err (stop.SourceFault journal)) w h =
     record { plan = None; shown_last = subst (λ (x : Journal). Shown heard.Go (view_between j.cluster j.promotions x.events)) (sym w.leaves) h }
-shown_unanswered Shown j whole rest left over run.NoMemory w h = tt
+shown_unanswered Shown j whole rest left over (Err (stop.Stopped journal)) w h = absurd w
+shown_unanswered Shown j whole rest left over (Err (stop.Most journal)) w h = absurd w
+shown_unanswered Shown j whole rest left over (Err stop.NoMemory) w h = tt
 
 -- a plan is shown, and what comes of its transition
 module _ (j : JournalOf) (p : Planned) (ready : IsReady j p) where
@@ -150,7 +151,7 @@ module _ (j : JournalOf) (p : Planned) (ready : IsReady j p) where
   pub shown_there : (Now : RunView → Type 0) (es : List Event) → Now (view_between p.executor.cluster p.executor.promotions es) → Now (view_between j.cluster j.promotions es)
   shown_there Now es h = subst (λ (r : Running). Now (view_between r.cluster r.promotions es)) ready.fresh h
 
-  pub shown_end : (Now : Heard → RunView → Type 0) (end : Result Journal ReplayStop) → IsShownEnd Now p.executor.cluster p.executor.promotions end
+  pub shown_end : (Now : Heard → RunView → Type 0) (end : Result Journal (ReplayStop Journal)) → IsShownEnd Now p.executor.cluster p.executor.promotions end
       → IsShownEnd Now j.cluster j.promotions end
   shown_end Now end h = subst (λ (r : Running). IsShownEnd Now r.cluster r.promotions end) ready.fresh h
 
@@ -175,7 +176,7 @@ module _ (c d : Cluster) (promotions scores : List Promotion) (same : d ≡ c) (
       → Shown (view_between c promotions es) → Now (view_between c promotions later)
   shown_behind Shown Now es later on h = subst Now (same_view later) (on (subst Shown (sym (same_view es)) h))
 
-  pub end_behind : (Shown : RunView → Type 0) (Now : Heard → RunView → Type 0) (es : List Event) (end : Result Journal ReplayStop)
+  pub end_behind : (Shown : RunView → Type 0) (Now : Heard → RunView → Type 0) (es : List Event) (end : Result Journal (ReplayStop Journal))
       → (Shown (view_between d scores es) → IsShownEnd Now d scores end) → Shown (view_between c promotions es) → IsShownEnd Now c promotions end
   end_behind Shown Now es end on h =
       subst (λ (x : List Promotion). IsShownEnd Now c x end) like

@@ -16,7 +16,7 @@ use Rattle.run_safety.proofs.Rests.{at_rest, in_order}
 use Rattle.run_safety.proofs.SoFar.{runs_more}
 use Rattle.graph_exec.specs.declared.run.stop.ReplayStop.{ReplayStop}
 use Rattle.graph_exec.specs.declared.run.stop.ReplayStop.TheVariants as stop
-use Rattle.graph_exec.specs.Replays.{Setting, Sight, IsBetweenTwo, IsJournalKept, IsTold, OfJournal, ReplaysAs, setting}
+use Rattle.graph_exec.specs.Replays.{Setting, Sight, IsBetweenTwo, IsJournalKept, IsTold, OfMade, ReplaysAs, setting}
 use Rattle.graph_exec.specs.RunEnds.{at_most}
 use Rattle.graph_exec.specs.Inner.Turns.{HasComeTo, CameTo, RunEndsAs, journal_back}
 use Rattle.graph_exec.proofs.Joined.{came_nowhere}
@@ -30,7 +30,7 @@ abbrev pub events_in : Journal → List Event
 events_in j = j.events
 
 module _ (Follows : List RunLine → Type 0) (s : Setting) (es : List Event) (a b : Sight) where
-  pub replays : (Stopped : List RunLine → Option RunLine → Type 0) (most : ℕ) (end : Result Journal ReplayStop) → RunEndsAs Follows s (due 1 es) a b Stopped end
+  pub replays : (Stopped : List RunLine → Option RunLine → Type 0) (most : ℕ) (end : Result Journal (ReplayStop Journal)) → RunEndsAs Follows s (due 1 es) a b Stopped end
       → ReplaysAs Follows Stopped s es a b most end
   replays Stopped most (Ok journal) w = record {
     lines = w.lines;
@@ -105,7 +105,7 @@ module _ (Follows : List RunLine → Type 0) (s : Setting) (es : List Event) (a 
       promotions_stay = ap (λ (j : Journal). j.promotions) is;
     }
 
-    pub kept : (Stopped : List RunLine → Option RunLine → Type 0) (end : Result Journal ReplayStop) → RunEndsAs Follows s (due 1 es) a b Stopped end → OfJournal (IsJournalKept s.promotions) end
+    pub kept : (Stopped : List RunLine → Option RunLine → Type 0) (end : Result Journal (ReplayStop Journal)) → RunEndsAs Follows s (due 1 es) a b Stopped end → OfMade (IsJournalKept s.promotions) end
     kept Stopped (Ok journal) w = kept_at w.last b.rest w.lines w.runs journal w.leaves
     kept Stopped (Err (stop.Unexpected journal given)) w = kept_at w.last w.unread w.lines w.runs journal w.leaves
     kept Stopped (Err (stop.SourceFault journal)) w = kept_at w.last b.rest w.lines w.runs journal w.leaves

@@ -18,8 +18,8 @@ use Rattle.cluster_types.specs.Texts.{PassedFits, between, run_lines}
 use Rattle.graph_exec.specs.declared.transition.outcomes.Next.TheVariants as next
 use Rattle.graph_exec.specs.Lasting.{LastWord, none_failed, word_is, word_open}
 use Rattle.graph_exec.specs.RunEnds.{EndOfRun, EndsSo, at_most, in_failure, unexpected, with_all}
-use Rattle.graph_exec.specs.declared.run.stop.ReplayEnd.{ReplayEnd}
-use Rattle.graph_exec.specs.declared.run.stop.ReplayEnd.TheVariants as end
+use Rattle.graph_exec.specs.declared.run.stop.ReplayStop.{ReplayStop}
+use Rattle.graph_exec.specs.declared.run.stop.ReplayStop.TheVariants as stop
 
 -- how a transition stands after these events: it has ended with all done, or aborted; or it is cut where it waits for an answer
 abbrev pub StandsSo : Transition → List Event → PassedEnd → Type 0
@@ -49,32 +49,21 @@ module _ (c : Cluster) (promotions : List Promotion) where
     abbrev pub IsKept : Run → EndOfRun → Type 0
     IsKept run end = EndsSo c promotions whole steady es rest left (run_lines c run) run.journal.events end
 
-    -- what is kept, by how the run ended, where so many transitions were allowed
-    abbrev pub KeepsAs : ℕ → Result Run ReplayEnd → Type 0
+    -- what is kept, by how the run ended, where so many transitions were allowed. No watcher stops it
+    abbrev pub KeepsAs : ℕ → Result Run (ReplayStop Run) → Type 0
     KeepsAs most (Ok run) = IsKept run with_all
-    KeepsAs most (Err (end.Unexpected run given)) = IsKept run (unexpected given)
-    KeepsAs most (Err (end.SourceFault run)) = IsKept run in_failure
-    KeepsAs most (Err (end.Most run)) = IsKept run (at_most most)
-    KeepsAs most (Err end.NoMemory) = Unit {0}
-
--- the fact holds of the run that is handed back. Out of memory, none is
-abbrev pub OfRun : (Run → Type 0) → Result Run ReplayEnd → Type 0
-OfRun P (Ok run) = P run
-OfRun P (Err (end.Unexpected run given)) = P run
-OfRun P (Err (end.SourceFault run)) = P run
-OfRun P (Err (end.Most run)) = P run
-OfRun P (Err end.NoMemory) = Unit {0}
-
--- no answer came that doesn't apply
-abbrev pub IsExpectedRun : Result Run ReplayEnd → Type 0
-IsExpectedRun (Err (end.Unexpected run given)) = ⊥
-IsExpectedRun _ = Unit {0}
+    KeepsAs most (Err (stop.Unexpected run given)) = IsKept run (unexpected given)
+    KeepsAs most (Err (stop.SourceFault run)) = IsKept run in_failure
+    KeepsAs most (Err (stop.Stopped run)) = ⊥
+    KeepsAs most (Err (stop.Most run)) = IsKept run (at_most most)
+    KeepsAs most (Err stop.NoMemory) = Unit {0}
 
 -- the last word of the source, by how the run ended: nothing more, an answer that doesn't apply or a failure was said last; else no question failed. Out of
 -- memory it isn't told
-abbrev pub kept_word : Result Run ReplayEnd → LastWord
-kept_word (Ok run) = word_is next.Silent
-kept_word (Err (end.Unexpected run given)) = word_is (next.Answer given)
-kept_word (Err (end.SourceFault run)) = word_is next.Failed
-kept_word (Err (end.Most run)) = none_failed
-kept_word (Err end.NoMemory) = word_open
+abbrev pub kept_word : {T : Type 0} → Result T (ReplayStop T) → LastWord
+kept_word (Ok made) = word_is next.Silent
+kept_word (Err (stop.Unexpected made given)) = word_is (next.Answer given)
+kept_word (Err (stop.SourceFault made)) = word_is next.Failed
+kept_word (Err (stop.Stopped made)) = none_failed
+kept_word (Err (stop.Most made)) = none_failed
+kept_word (Err stop.NoMemory) = word_open

@@ -69,7 +69,7 @@ module _ (Follows : List RunLine → Type 0) (Stopped : List RunLine → Option 
     pub told : Follows lines
 
   -- what was made of the journal, by how the run ended, where so many transitions were allowed
-  abbrev pub ReplaysAs : ℕ → Result Journal ReplayStop → Type 0
+  abbrev pub ReplaysAs : ℕ → Result Journal (ReplayStop Journal) → Type 0
   ReplaysAs most (Ok journal) = IsTold journal with_all
   ReplaysAs most (Err (stop.Unexpected journal given)) = IsTold journal (unexpected given)
   ReplaysAs most (Err (stop.SourceFault journal)) = IsTold journal in_failure
@@ -77,14 +77,14 @@ module _ (Follows : List RunLine → Type 0) (Stopped : List RunLine → Option 
   ReplaysAs most (Err (stop.Most journal)) = IsTold journal (at_most most)
   ReplaysAs most (Err stop.NoMemory) = IsBetweenTwo
 
--- the fact holds of the journal that is handed back. Out of memory, none is
-abbrev pub OfJournal : (Journal → Type 0) → Result Journal ReplayStop → Type 0
-OfJournal P (Ok journal) = P journal
-OfJournal P (Err (stop.Unexpected journal given)) = P journal
-OfJournal P (Err (stop.SourceFault journal)) = P journal
-OfJournal P (Err (stop.Stopped journal)) = P journal
-OfJournal P (Err (stop.Most journal)) = P journal
-OfJournal P (Err stop.NoMemory) = Unit {0}
+-- the fact holds of what is handed back: the journal, or the run that is kept. Out of memory, nothing is
+abbrev pub OfMade : {T : Type 0} → (T → Type 0) → Result T (ReplayStop T) → Type 0
+OfMade P (Ok made) = P made
+OfMade P (Err (stop.Unexpected made given)) = P made
+OfMade P (Err (stop.SourceFault made)) = P made
+OfMade P (Err (stop.Stopped made)) = P made
+OfMade P (Err (stop.Most made)) = P made
+OfMade P (Err stop.NoMemory) = Unit {0}
 
 -- the journal is in order and has the promotion scores of the first
 pub record IsJournalKept (promotions : List Promotion) (journal : Journal) : Type 0 where
@@ -101,7 +101,7 @@ pub record IsShownTo (Shown : Heard → RunView → Type 0) (c : Cluster) (promo
   pub shown_last : Shown said (record { cluster = c; promotions = promotions; plan = plan; events = es })
 
 -- the watcher has been shown the journal that is handed back, by how the run ended. At the end of a transition no plan is under way any more
-abbrev pub IsShownEnd : (Heard → RunView → Type 0) → Cluster → List Promotion → Result Journal ReplayStop → Type 0
+abbrev pub IsShownEnd : (Heard → RunView → Type 0) → Cluster → List Promotion → Result Journal (ReplayStop Journal) → Type 0
 IsShownEnd Shown c promotions (Ok journal) = Shown heard.Go (view_between c promotions journal.events)
 IsShownEnd Shown c promotions (Err (stop.Unexpected journal given)) = IsShownTo Shown c promotions heard.Go journal.events
 IsShownEnd Shown c promotions (Err (stop.SourceFault journal)) = IsShownTo Shown c promotions heard.Go journal.events
@@ -110,17 +110,17 @@ IsShownEnd Shown c promotions (Err (stop.Most journal)) = Shown heard.Go (view_b
 IsShownEnd Shown c promotions (Err stop.NoMemory) = Unit {0}
 
 -- where the source has failed as it waited for what comes next, the watcher held nothing back
-abbrev pub IsQuietInFault : Type 0 → Type 0 → Result Journal ReplayStop → Type 0
+abbrev pub IsQuietInFault : Type 0 → Type 0 → Result Journal (ReplayStop Journal) → Type 0
 IsQuietInFault broke quiet (Err (stop.SourceFault journal)) = broke → quiet
 IsQuietInFault broke quiet _ = Unit {0}
 
 -- no answer came that doesn't apply
-abbrev pub IsReplayExpected : Result Journal ReplayStop → Type 0
-IsReplayExpected (Err (stop.Unexpected journal given)) = ⊥
+abbrev pub IsReplayExpected : {T : Type 0} → Result T (ReplayStop T) → Type 0
+IsReplayExpected (Err (stop.Unexpected made given)) = ⊥
 IsReplayExpected _ = Unit {0}
 
 -- the last word of the source, by how the run ended: nothing more, an answer that doesn't apply or a failure was said last; else no question failed
-abbrev pub replay_word : Result Journal ReplayStop → LastWord
+abbrev pub replay_word : Result Journal (ReplayStop Journal) → LastWord
 replay_word (Ok journal) = word_is next.Silent
 replay_word (Err (stop.Unexpected journal given)) = word_is (next.Answer given)
 replay_word (Err (stop.SourceFault journal)) = word_is next.Failed
@@ -129,7 +129,7 @@ replay_word (Err (stop.Most journal)) = none_failed
 replay_word (Err stop.NoMemory) = none_failed
 
 -- what the watcher said at last: it went on each time, or has stopped the run
-abbrev pub replay_heard : Result Journal ReplayStop → Heard
+abbrev pub replay_heard : Result Journal (ReplayStop Journal) → Heard
 replay_heard (Ok journal) = heard.Go
 replay_heard (Err (stop.Unexpected journal given)) = heard.Go
 replay_heard (Err (stop.SourceFault journal)) = heard.Go

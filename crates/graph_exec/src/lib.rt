@@ -10,7 +10,7 @@ mod transition;
 mod run;
 
 pub use run::kept::replay;
-pub use run::stop::{ReplayEnd, ReplayStop};
+pub use run::stop::ReplayStop;
 pub use run::watched::replay_watched;
 pub use transition::course::{NotBegun, Parts};
 pub use transition::ends::{End, WatchedEnd};

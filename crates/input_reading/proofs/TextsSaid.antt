@@ -5,8 +5,10 @@ use Rattle.crm_lex.specs.Reading.{reads}
 use Rattle.crm_parse.specs.declared.fault.ParseCause.{ParseCause}
 use Rattle.crm_parse.specs.declared.marks.SectionMarks.{SectionMarks}
 use Rattle.crm_parse.specs.declared.statement.Crm.{Crm}
+use Rattle.crm_parse.specs.Grammar.Configurations.{SaysStatements}
 use Rattle.crm_parse.specs.Marks.{sections_of}
 use Rattle.crm_parse.specs.Statements.{statements_of}
+use Rattle.crm_parse.proofs.Grammar.ConfigurationRelated.{text-refuses, text-says}
 use Rattle.cluster_model.specs.Expansion.{expansion_of}
 use Rattle.cluster_model.specs.Resolution.{resolution_of}
 use Rattle.cluster_types.specs.declared.cluster.Cluster.{Cluster}
@@ -14,18 +16,16 @@ use Rattle.cluster_types.specs.Journals.{moment_of}
 use Rattle.faults.specs.declared.fault.Fault.{Fault}
 use Rattle.faults.specs.declared.fault.Fault.TheVariants.{At, NoMemory}
 use Rattle.faults.specs.Reading.{Gives, faulting, ◌>>=◌}
-use Rattle.crm_lex.specs.declared.fault.LexCause.{LexCause}
-use Rattle.cluster_model.specs.declared.expansion.expand_fault.ExpandCause.{ExpandCause}
-use Rattle.cluster_model.specs.declared.resolution.fault.ModelCause.{ModelCause}
 use Rattle.input_reading.specs.declared.history_fault.StatusCause.{StatusCause}
 use Rattle.input_reading.specs.declared.input.cause.InputCause.{InputCause}
 use Rattle.input_reading.specs.declared.input.cause.InputCause.TheVariants as cause
+use Rattle.input_reading.specs.declared.input.reading.Configuration.{Configuration}
 use Rattle.input_reading.specs.declared.input.reading.Head.{Head}
 use Rattle.input_reading.specs.declared.input.reading.Input.{Input}
 use Rattle.input_reading.specs.declared.input.trace.Trace.{Trace}
 use Rattle.input_reading.specs.FirstJournal.{status_journal}
 use Rattle.input_reading.specs.Grammar.LinesSaid.{AreResultsRefused, AsLinesSay, IsRunRefused, ResultsAreSaid, RunIsSaid}
-use Rattle.input_reading.specs.Grammar.TextsSaid.{InputIsSaid, IsHeadSaid, IsInputRefused, IsRefusedInStatus, IsStartRefused, IsTraceLineRefused, StartIsSaid, TraceIsSaid}
+use Rattle.input_reading.specs.Grammar.TextsSaid.{ConfigurationIsSaid, InputIsSaid, IsHeadRefused, IsHeadSaid, IsInputRefused, IsStartRefused, IsTraceLineRefused, StartIsSaid, TraceIsSaid, cluster_refused, input_head_refused, leaves_refused, result_refused, run_line_refused, section_refused, statement_refused, status_refused, trace_head_refused, words_refused}
 use Rattle.input_reading.specs.Reading.{configuration_lines, configuration_of, following_lines, head_of, input_of, line_behind, nothing_yet, reading_steps, start_of, status_lines, with_results}
 use Rattle.input_reading.specs.Results.{results_of}
 use Rattle.input_reading.specs.RunReading.{read_run_lines}
@@ -72,15 +72,30 @@ unfolding head_of
 head-failed crm cluster lines number why e here = failed cause.Status (status_journal cluster lines) _ number why e here (λ journal is e. absurd (cc))
 
 module _ (sections : List Line → Result SectionMarks (Fault ParseCause)) (text : List ℕ) where
-  -- no cause of a configuration is one of the lines behind it
-  early : (P : InputCause → Type 0) → ((why : LexCause) → P (cause.Words why)) → ((why : ParseCause) → P (cause.Statements why))
-      → ((why : ExpandCause) → P (cause.Leaves why)) → (number : ℕ) (why : InputCause) → configuration_of sections text ≡ Err (At number why) → P why
+  -- what is read as the configuration is said
+  configuration-said : (found : Configuration) → configuration_of sections text ≡ Ok found → ConfigurationIsSaid sections text found
   unfolding configuration_of
-  early P words statements leaves number why e =
-      failed cause.Words (reads text) _ number why e (λ found is same. subst P same (words found)) (λ lines is e.
-      failed cause.Statements (sections lines) _ number why e (λ found is same. subst P same (statements found)) (λ marks is e.
-      failed cause.Statements (statements_of (configuration_lines marks lines)) _ number why e (λ found is same. subst P same (statements found)) (λ crm is e.
-      failed cause.Leaves (expansion_of crm.statements) _ number why e (λ found is same. subst P same (leaves found)) (λ found is e. absurd (cc)))))
+  configuration-said found e =
+      let lines = passed cause.Words (reads text) _ found e in
+      let marks = passed cause.Statements (sections lines.gave) _ found lines.goes_on in
+      let crm = passed cause.Statements (statements_of (configuration_lines marks.gave lines.gave)) _ found marks.goes_on in
+      let leaves = passed cause.Leaves (expansion_of crm.gave.statements) _ found crm.goes_on in
+      let made : found ≡ record { lines = lines.gave; marks = marks.gave; crm = crm.gave; leaves = leaves.gave } = cc in
+      let said : SaysStatements (configuration_lines marks.gave lines.gave) crm.gave = (text-says (configuration_lines marks.gave lines.gave) crm.gave).0 crm.is in
+      rw made (record { lines = lines.is; marks = marks.is; statements = said; leaves = leaves.is })
+
+  -- and what it is refused for
+  configuration-refused : (number : ℕ) (why : InputCause) → configuration_of sections text ≡ Err (At number why) → IsHeadRefused sections text number why
+  unfolding configuration_of
+  configuration-refused number why e =
+      failed cause.Words (reads text) _ number why e (λ found is same. subst (IsHeadRefused sections text number) same (words_refused found is)) (λ lines read e.
+      failed cause.Statements (sections lines) _ number why e (λ found is same. subst (IsHeadRefused sections text number) same (section_refused lines found read is)) (λ marks marked e.
+      let own = configuration_lines marks lines in
+      failed cause.Statements (statements_of own) _ number why e
+      (λ found is same. subst (IsHeadRefused sections text number) same (statement_refused lines marks found read marked ((text-refuses own number).0 (found, is)))) (λ crm is e.
+      failed cause.Leaves (expansion_of crm.statements) _ number why e
+      (λ found refused same. subst (IsHeadRefused sections text number) same (leaves_refused lines marks crm found read marked ((text-says own crm).0 is) refused))
+      (λ found is e. absurd (cc)))))
 
   module _ {X : Type 0} (read_on : List Line → Head → List Line → Result X (Fault InputCause)) where
     -- the head of what is read, and what is read behind it
@@ -104,7 +119,7 @@ module _ (sections : List Line → Result SectionMarks (Fault ParseCause)) (text
           behind = following_lines found.gave.marks found.gave.lines;
           said = λ Holds holds. record {
             found = found.gave;
-            configured = found.is;
+            configured = configuration-said found.gave found.is;
             resolves = cluster.is ∙ ap Ok (sym made.resolved);
             same = made.statements;
             status = journal-said head.gave.cluster lines head.gave.journal (subst (λ c. status_journal c lines ≡ Ok head.gave.journal) (sym made.resolved) made.journal);
@@ -113,30 +128,25 @@ module _ (sections : List Line → Result SectionMarks (Fault ParseCause)) (text
           goes_on = head.goes_on;
         }
 
-    -- what holds of a fault: that of the configuration, of the cluster, of the status, or behind it
-    fault-on : (P : InputCause → Type 0) (number : ℕ) (why : InputCause) → ((why : LexCause) → P (cause.Words why)) → ((why : ParseCause) → P (cause.Statements why))
-        → ((why : ExpandCause) → P (cause.Leaves why)) → ((why : ModelCause) → P (cause.Cluster why))
-        → ((why : StatusCause) → IsRefusedInStatus sections text number why → P (cause.Status why))
+    -- what holds of a fault: that of the head, or behind it
+    fault-on : (P : InputCause → Type 0) (number : ℕ) (why : InputCause) → ((why : InputCause) → IsHeadRefused sections text number why → P why)
         → ((head : Head) (all behind : List Line) → ((Holds : Head → List Line → Type 0) → Holds head behind → IsHeadSaid sections Holds text head)
         → read_on all head behind ≡ Err (At number why) → P why)
         → reading_steps sections read_on text ≡ Err (At number why) → P why
-    fault-on P number why words statements leaves cluster status behind e =
-        failed_on (configuration_of sections text) _ (At number why) e (early P words statements leaves number why) (λ found configured e.
-        failed cause.Cluster (resolution_of found.leaves found.crm.statements) _ number why e (λ fault is same. subst P same (cluster fault)) (λ c resolves e.
-        failed_on (head_of found.crm c (status_lines found.marks found.lines)) _ (At number why) e
-        (λ e. head-failed found.crm c (status_lines found.marks found.lines) number why e (λ fault is same. subst P same (status fault (record {
-          found = found;
-          cluster = c;
-          configured = configured;
-          resolves = resolves;
-          refused = journal-refused c (status_lines found.marks found.lines) number fault is;
-        }))))
-        (λ head is e.
+    fault-on P number why refused behind e =
+        failed_on (configuration_of sections text) _ (At number why) e (λ e. refused why (configuration-refused number why e)) (λ found configured e.
+        let said = configuration-said found configured in
+        failed cause.Cluster (resolution_of found.leaves found.crm.statements) _ number why e
+        (λ fault is same. refused why (subst (IsHeadRefused sections text number) same (cluster_refused found fault said is))) (λ c resolves e.
         let lines = status_lines found.marks found.lines in
+        failed_on (head_of found.crm c lines) _ (At number why) e
+        (λ e. head-failed found.crm c lines number why e (λ fault is same.
+        refused why (subst (IsHeadRefused sections text number) same (status_refused found c fault said resolves (journal-refused c lines number fault is)))))
+        (λ head is e.
         let made = head-passed found.crm c lines head is in
         behind head found.lines (following_lines found.marks found.lines) (λ Holds holds. record {
           found = found;
-          configured = configured;
+          configured = said;
           resolves = resolves ∙ ap Ok (sym made.resolved);
           same = made.statements;
           status = journal-said head.cluster lines head.journal (subst (λ d. status_journal d lines ≡ Ok head.journal) (sym made.resolved) made.journal);
@@ -165,14 +175,12 @@ module _ (text : List ℕ) where
   pub input-refused : (number : ℕ) (why : InputCause) → input_of text ≡ Err (At number why) → IsInputRefused text number why
   unfolding input_of with_results
   input-refused number why e =
-      fault-on sections_of text (λ all. with_results) (IsInputRefused text number) number why (λ w. tt) (λ w. tt) (λ w. tt) (λ w. tt) (λ w refused. refused)
+      fault-on sections_of text (λ all. with_results) (IsInputRefused text number) number why (λ w refused. input_head_refused w refused)
       (λ head all behind said e.
       failed cause.Results (results_of head.cluster (moment_of head.journal.events) behind) _ number why e
-      (λ found is same. subst (IsInputRefused text number) same (record {
-        head = head;
-        said = said (λ h lines. AreResultsRefused h.cluster (moment_of h.journal.events) lines number found)
-            (results-refused head.cluster (moment_of head.journal.events) behind number found is);
-      }))
+      (λ found is same. subst (IsInputRefused text number) same (result_refused head found
+      (said (λ h lines. AreResultsRefused h.cluster (moment_of h.journal.events) lines number found)
+      (results-refused head.cluster (moment_of head.journal.events) behind number found is))))
       (λ answers is e. absurd (cc))) e
 
   pub input-given : (given : Result Input (Fault InputCause)) → Gives (λ (input : Input). input) given (input_of text)
@@ -190,7 +198,7 @@ module _ (text : List ℕ) where
   pub start-refused : (number : ℕ) (why : InputCause) → start_of text ≡ Err (At number why) → IsStartRefused text number why
   unfolding start_of
   start-refused number why e =
-      fault-on sections_of text (λ all. nothing_yet) (IsStartRefused text number) number why (λ w. tt) (λ w. tt) (λ w. tt) (λ w. tt) (λ w refused. refused)
+      fault-on sections_of text (λ all. nothing_yet) (IsStartRefused text number) number why (λ w refused. refused)
       (λ head all behind said e. absurd (cc)) e
 
   pub start-given : (given : Result Head (Fault InputCause)) → Gives (λ (head : Head). head) given (start_of text)
@@ -218,14 +226,11 @@ module _ (text : List ℕ) where
   pub trace-refused : (number : ℕ) (why : InputCause) → trace_of text ≡ Err (At number why) → IsTraceLineRefused text number why
   unfolding trace_of with_run
   trace-refused number why e =
-      fault-on sections_with_trace text (λ all. with_run (line_behind all)) (IsTraceLineRefused text number) number why (λ w. tt) (λ w. tt) (λ w. tt) (λ w. tt)
-      (λ w refused. refused)
+      fault-on sections_with_trace text (λ all. with_run (line_behind all)) (IsTraceLineRefused text number) number why (λ w refused. trace_head_refused w refused)
       (λ head all behind said e.
       failed cause.Run (read_run_lines head.cluster behind) _ number why e
-      (λ found is same. subst (IsTraceLineRefused text number) same (record {
-        head = head;
-        said = said (λ h lines. IsRunRefused h.cluster lines number found) (lines-of-run-refused head.cluster behind number found is);
-      }))
+      (λ found is same. subst (IsTraceLineRefused text number) same (run_line_refused head found
+      (said (λ h lines. IsRunRefused h.cluster lines number found) (lines-of-run-refused head.cluster behind number found is))))
       (λ run is e. absurd (cc))) e
 
   pub trace-given : (given : Result Trace (Fault InputCause)) → Gives (λ (trace : Trace). trace) given (trace_of text)

@@ -114,7 +114,7 @@ const BROKEN_OFF: &Run = &(
     Ending::SourceFault,
 );
 
-fn ends_so(made: &Result<Journal, ReplayStop>, expected: &Ending) -> bool {
+fn ends_so(made: &Result<Journal, ReplayStop<Journal>>, expected: &Ending) -> bool {
     match (made, expected) {
         (Ok(_), Ending::Whole) => true,
         (Err(ReplayStop::Most(_)), Ending::Most) => true,

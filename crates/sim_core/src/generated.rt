@@ -23,7 +23,7 @@ use cases::generate;
 use cluster_io::{Sink, write_text};
 use cluster_types::{Answer, Cluster, Journal, Run};
 use faults::NoMemory;
-use graph_exec::{ReplayEnd, Script, replay};
+use graph_exec::{ReplayStop, Script, replay};
 use input_reading::{Head, Input, InputFault, ResultLine, read_input};
 use run_safety::enough_transitions_are_allowed;
 use std::alloc::{AllocError, Global};
@@ -55,10 +55,11 @@ fn run_of(
     let most = results.len() as u32 + 1;
     match replay(alloc, cluster, journal, &mut answers, most) {
         Ok(run) => Ok(run),
-        Err(ReplayEnd::Unexpected(run, _)) => Ok(run),
-        Err(ReplayEnd::NoMemory) => Err(NoMemory),
-        Err(ReplayEnd::SourceFault(_)) => unreachable!(),
-        Err(ReplayEnd::Most(_)) => unreachable!(),
+        Err(ReplayStop::Unexpected(run, _)) => Ok(run),
+        Err(ReplayStop::NoMemory) => Err(NoMemory),
+        Err(ReplayStop::SourceFault(_)) => unreachable!(),
+        Err(ReplayStop::Stopped(_)) => unreachable!(),
+        Err(ReplayStop::Most(_)) => unreachable!(),
     }
 }
 

@@ -10,7 +10,7 @@ ghost use Rattle.simulated.specs.WorldTexts.{HasLived};
 use crate::World;
 use cluster_types::{Cluster, Journal, Run};
 use faults::NoMemory;
-use graph_exec::{ReplayEnd, replay};
+use graph_exec::{ReplayStop, replay};
 use std::alloc::Global;
 
 /// How many transitions are made at most.
@@ -39,9 +39,10 @@ pub(crate) fn live(
 {
     match replay(alloc, cluster, journal, world, MOST_TRANSITIONS) {
         Ok(run) => Ok(Lived { run, over: true }),
-        Err(ReplayEnd::Most(run)) => Ok(Lived { run, over: false }),
-        Err(ReplayEnd::NoMemory) => Err(NoMemory),
-        Err(ReplayEnd::Unexpected(_, _)) => unreachable!(),
-        Err(ReplayEnd::SourceFault(_)) => unreachable!(),
+        Err(ReplayStop::Most(run)) => Ok(Lived { run, over: false }),
+        Err(ReplayStop::NoMemory) => Err(NoMemory),
+        Err(ReplayStop::Unexpected(_, _)) => unreachable!(),
+        Err(ReplayStop::SourceFault(_)) => unreachable!(),
+        Err(ReplayStop::Stopped(_)) => unreachable!(),
     }
 }

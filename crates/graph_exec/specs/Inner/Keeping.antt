@@ -13,37 +13,27 @@ use Rattle.cluster_types.specs.Sources.{Says}
 use Rattle.cluster_types.specs.Texts.{all_passed_lines}
 use Rattle.graph_exec.specs.declared.transition.ends.End.{End}
 use Rattle.graph_exec.specs.declared.transition.ends.End.TheVariants as end
-use Rattle.graph_exec.specs.declared.transition.outcomes.Next.TheVariants as next
-use Rattle.graph_exec.specs.Lasting.{LastWord, none_failed, word_is, word_open}
+use Rattle.graph_exec.specs.Lasting.{LastWord, none_failed}
 use Rattle.graph_exec.specs.Logs.{JournalOf}
 use Rattle.graph_exec.specs.Resting.{IsRefusedResting, TookResting}
-use Rattle.graph_exec.specs.declared.run.run_ending.RunEnd.{RunEnd}
-use Rattle.graph_exec.specs.declared.run.run_ending.RunEnd.TheVariants as run
 use Rattle.graph_exec.specs.declared.run.idling.Taken.{Taken}
-use Rattle.graph_exec.specs.declared.run.stop.ReplayEnd.{ReplayEnd}
-use Rattle.graph_exec.specs.declared.run.stop.ReplayEnd.TheVariants as kept
 use Rattle.graph_exec.specs.declared.run.stop.ReplayStop.{ReplayStop}
 use Rattle.graph_exec.specs.declared.run.stop.ReplayStop.TheVariants as stop
-use Rattle.graph_exec.specs.Kept.{IsPassedOfPlan}
-use Rattle.graph_exec.specs.Replays.{Setting, replay_word}
+use Rattle.graph_exec.specs.Kept.{IsPassedOfPlan, kept_word}
+use Rattle.graph_exec.specs.Replays.{Setting}
 use Rattle.graph_exec.specs.Inner.Turns.{IsSaid, journal_back, plain_of}
-
--- as the end of a run that was watched
-abbrev pub watched_end : RunEnd → Result Journal ReplayStop
-watched_end (run.Whole journal) = Ok journal
-watched_end (run.Unexpected journal given) = Err (stop.Unexpected journal given)
-watched_end (run.SourceFault journal) = Err (stop.SourceFault journal)
-watched_end run.NoMemory = Err stop.NoMemory
 
 abbrev pub with_journal : List Passed → Journal → Run
 with_journal passed journal = record { passed = passed; journal = journal }
 
 -- as the end of a run of which these transitions are kept
-abbrev pub kept_end : List Passed → RunEnd → Result Run ReplayEnd
-kept_end passed (run.Whole journal) = Ok (with_journal passed journal)
-kept_end passed (run.Unexpected journal given) = Err (kept.Unexpected (with_journal passed journal) given)
-kept_end passed (run.SourceFault journal) = Err (kept.SourceFault (with_journal passed journal))
-kept_end passed run.NoMemory = Err kept.NoMemory
+abbrev pub kept_end : List Passed → Result Journal (ReplayStop Journal) → Result Run (ReplayStop Run)
+kept_end passed (Ok journal) = Ok (with_journal passed journal)
+kept_end passed (Err (stop.Unexpected journal given)) = Err (stop.Unexpected (with_journal passed journal) given)
+kept_end passed (Err (stop.SourceFault journal)) = Err (stop.SourceFault (with_journal passed journal))
+kept_end passed (Err (stop.Stopped journal)) = Err (stop.Stopped (with_journal passed journal))
+kept_end passed (Err (stop.Most journal)) = Err (stop.Most (with_journal passed journal))
+kept_end passed (Err stop.NoMemory) = Err stop.NoMemory
 
 -- how a transition ended, as it is kept
 abbrev pub passed_end : End → PassedEnd
@@ -57,20 +47,10 @@ pub record StaysOf (j later : JournalOf) : Type 0 where
   pub cluster_stays : later.cluster ≡ j.cluster
   pub promotions_stay : later.promotions ≡ j.promotions
 
--- the last word of the source: of a question while nothing is to be done, and of a transition that is kept. Out of memory the latter isn't told
-abbrev pub idle_word : {T : Type 0} → Result T RunEnd → LastWord
-idle_word (Ok taken) = none_failed
-idle_word (Err end) = replay_word (watched_end end)
-
-abbrev pub end_word : RunEnd → LastWord
-end_word (run.Whole journal) = word_is next.Silent
-end_word (run.Unexpected journal given) = word_is (next.Answer given)
-end_word (run.SourceFault journal) = word_is next.Failed
-end_word run.NoMemory = word_open
-
-abbrev pub keeping_word : {T : Type 0} → Result T RunEnd → LastWord
+-- the last word of the source of a transition that is kept. Out of memory it isn't told
+abbrev pub keeping_word : {T : Type 0} → Result T (Result Journal (ReplayStop Journal)) → LastWord
 keeping_word (Ok later) = none_failed
-keeping_word (Err end) = end_word end
+keeping_word (Err end) = kept_word end
 
 -- what comes of a question while nothing is to be done
 module _ (whole : Bool) (j : JournalOf) (rest left : Option (List Answer)) where
@@ -94,11 +74,13 @@ module _ (whole : Bool) (j : JournalOf) (rest left : Option (List Answer)) where
     pub not_over : over ≡ false
     pub leaves : journal ≡ plain_of j
 
-  abbrev pub IsUnanswered : Bool → RunEnd → Type 0
-  IsUnanswered over (run.Whole journal) = IsSilent journal
-  IsUnanswered over (run.Unexpected journal given) = IsRestingRefused journal given
-  IsUnanswered over (run.SourceFault journal) = HasRestingFailed over journal
-  IsUnanswered over run.NoMemory = left ≡ rest
+  abbrev pub IsUnanswered : Bool → Result Journal (ReplayStop Journal) → Type 0
+  IsUnanswered over (Ok journal) = IsSilent journal
+  IsUnanswered over (Err (stop.Unexpected journal given)) = IsRestingRefused journal given
+  IsUnanswered over (Err (stop.SourceFault journal)) = HasRestingFailed over journal
+  IsUnanswered over (Err (stop.Stopped journal)) = ⊥
+  IsUnanswered over (Err (stop.Most journal)) = ⊥
+  IsUnanswered over (Err stop.NoMemory) = left ≡ rest
 
 module _ (s : Setting) (es : List Event) (first : Option (List Answer)) where
   -- the run was made up to here, with these answers left to come, and its lines are those of the transitions that are kept. While a steady source isn't
@@ -133,8 +115,10 @@ module _ (s : Setting) (es : List Event) (first : Option (List Answer)) where
       pub leaves : journal ≡ journal_back s last
 
   -- how it ended on the way
-  abbrev pub KeepsEnd : Option (List Answer) → List Passed → RunEnd → Type 0
-  KeepsEnd left passed (run.Whole journal) = KeepsWhole left passed journal
-  KeepsEnd left passed (run.Unexpected journal given) = KeepsCut left passed journal given
-  KeepsEnd left passed (run.SourceFault journal) = KeepsSoFar left passed journal
-  KeepsEnd left passed run.NoMemory = Unit {0}
+  abbrev pub KeepsEnd : Option (List Answer) → List Passed → Result Journal (ReplayStop Journal) → Type 0
+  KeepsEnd left passed (Ok journal) = KeepsWhole left passed journal
+  KeepsEnd left passed (Err (stop.Unexpected journal given)) = KeepsCut left passed journal given
+  KeepsEnd left passed (Err (stop.SourceFault journal)) = KeepsSoFar left passed journal
+  KeepsEnd left passed (Err (stop.Stopped journal)) = ⊥
+  KeepsEnd left passed (Err (stop.Most journal)) = ⊥
+  KeepsEnd left passed (Err stop.NoMemory) = Unit {0}

@@ -113,7 +113,7 @@ module _ (Follows : List RunLine → Type 0) (s : Setting) (from : RunStanding) 
     pub between : IsBetween s.cluster s.promotions s.whole at
 
   -- how it ended on the way
-  abbrev pub RunEndsAs : (List RunLine → Option RunLine → Type 0) → Result Journal ReplayStop → Type 0
+  abbrev pub RunEndsAs : (List RunLine → Option RunLine → Type 0) → Result Journal (ReplayStop Journal) → Type 0
   RunEndsAs Stopped (Ok journal) = EndsWhole journal
   RunEndsAs Stopped (Err (stop.Unexpected journal given)) = RunEndsCut journal given
   RunEndsAs Stopped (Err (stop.SourceFault journal)) = EndsBroken journal
@@ -157,10 +157,10 @@ closed_at number true = idle number
 closed_at number false = due (number + 1)
 
 -- the last word of the source in a part of a run, and what the watcher said at last: the run goes on, or ends so
-abbrev pub part_word : {T : Type 0} → Result T (Result Journal ReplayStop) → LastWord
+abbrev pub part_word : {T : Type 0} → Result T (Result Journal (ReplayStop Journal)) → LastWord
 part_word (Ok made) = none_failed
 part_word (Err ended) = replay_word ended
 
-abbrev pub part_heard : {T : Type 0} → Result T (Result Journal ReplayStop) → Heard
+abbrev pub part_heard : {T : Type 0} → Result T (Result Journal (ReplayStop Journal)) → Heard
 part_heard (Ok made) = heard.Go
 part_heard (Err ended) = replay_heard ended

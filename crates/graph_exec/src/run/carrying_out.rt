@@ -5,7 +5,7 @@ ghost use Rattle.cluster_types.specs.Runs.{amid};
 ghost use Rattle.cluster_types.specs.Safety.{IsAtRest};
 ghost use Rattle.graph_exec.specs.Lasting.{SourceLasts, WatcherLasts};
 ghost use Rattle.graph_exec.specs.Running.{going};
-ghost use Rattle.graph_exec.specs.Replays.{AgreesWith, IsQuietInFault, IsReplayExpected, IsShownEnd, OfJournal, setting, sight};
+ghost use Rattle.graph_exec.specs.Replays.{AgreesWith, IsQuietInFault, IsReplayExpected, IsShownEnd, OfMade, setting, sight};
 ghost use Rattle.graph_exec.specs.Telling.{view_amid, view_between};
 ghost use Rattle.graph_exec.specs.Inner.Turns.{CameTo, RunEndsAs, HasPlannedGraph, closed_at, part_heard, part_word};
 
@@ -49,7 +49,7 @@ pub(crate) fn carry_out<'c, S: Outcomes, V: Watcher>(
     ensures agrees { S.agrees outcomes.old executor.entry.cluster executor.entry.planned_at 0
         → IfOk result (λ closed. S.agrees outcomes.new executor.entry.cluster closed.journal.events 0) }
     ensures agrees_at_end { S.agrees outcomes.old executor.entry.cluster executor.entry.planned_at 0
-        → IfErr result (OfJournal (AgreesWith (S.agrees outcomes.new) executor.entry.cluster)) }
+        → IfErr result (OfMade (AgreesWith (S.agrees outcomes.new) executor.entry.cluster)) }
     ensures fitting { S.careful outcomes.old ≡ true → S.agrees outcomes.old executor.entry.cluster executor.entry.planned_at 0 → IfErr result IsReplayExpected }
 
     ensures source { SourceLasts S.Outcomes outcomes.old outcomes.new (part_word result) }

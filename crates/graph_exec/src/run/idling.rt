@@ -3,13 +3,12 @@
 ghost use Rattle.std.specs.Prelude.{◌≡◌, ◌⊎◌, ◌+◌, [], true, IfOk, IfErr};
 ghost use Rattle.cluster_types.specs.Journals.{in_flight_by_begin};
 ghost use Rattle.cluster_types.specs.Runs.{due, idle};
-ghost use Rattle.graph_exec.specs.Inner.Keeping.{IsAnswered, IsUnanswered, idle_word, watched_end};
+ghost use Rattle.graph_exec.specs.Inner.Keeping.{IsAnswered, IsUnanswered};
 ghost use Rattle.graph_exec.specs.Lasting.{SourceLasts, WatcherLasts};
-ghost use Rattle.graph_exec.specs.Replays.{AgreesWith, IsQuietInFault, IsReplayExpected, IsShownEnd, OfJournal, setting, sight};
+ghost use Rattle.graph_exec.specs.Replays.{AgreesWith, IsQuietInFault, IsReplayExpected, IsShownEnd, OfMade, setting, sight};
 ghost use Rattle.graph_exec.specs.Telling.{view_between};
 ghost use Rattle.graph_exec.specs.Inner.Turns.{CameTo, RunEndsAs, part_heard, part_word};
 
-use crate::run::run_ending::RunEnd;
 use crate::run::stop::{Ended, ReplayStop};
 use crate::transition::rounds::wait_for;
 use crate::{Heard, KnownJournal, Next, Outcomes, Resting, Watcher};
@@ -30,7 +29,7 @@ pub(crate) fn ask_idle<'c, S: Outcomes, V: Watcher>(
     journal: KnownJournal<'c>,
     outcomes: &mut S,
     watcher: &V,
-) -> Result<Taken<'c>, RunEnd>
+) -> Result<Taken<'c>, Ended>
     requires resting { in_flight_by_begin journal.events ≡ [] }
     requires in_time { S.at_hand outcomes.old ⊎ V.quiet watcher.now }
     ensures answered { IfOk result (IsAnswered (S.whole outcomes.old) journal.entry (S.rest outcomes.old) (S.rest outcomes.new)) }
@@ -40,28 +39,28 @@ pub(crate) fn ask_idle<'c, S: Outcomes, V: Watcher>(
     ensures agrees { S.agrees outcomes.old journal.entry.cluster journal.entry.events 0
         → IfOk result (λ taken. S.agrees outcomes.new journal.entry.cluster taken.journal.events 0) }
     ensures agrees_at_end { S.agrees outcomes.old journal.entry.cluster journal.entry.events 0
-        → IfErr result (λ end. OfJournal (AgreesWith (S.agrees outcomes.new) journal.entry.cluster) (watched_end end)) }
+        → IfErr result (OfMade (AgreesWith (S.agrees outcomes.new) journal.entry.cluster)) }
     ensures fitting { S.careful outcomes.old ≡ true → S.agrees outcomes.old journal.entry.cluster journal.entry.events 0
-        → IfErr result (λ end. IsReplayExpected (watched_end end)) }
+        → IfErr result IsReplayExpected }
 
-    ensures source { SourceLasts S.Outcomes outcomes.old outcomes.new (idle_word result) }
-    ensures quiet { IfErr result (λ end. IsQuietInFault (S.broke outcomes.new) (V.quiet watcher.now) (watched_end end)) }
+    ensures source { SourceLasts S.Outcomes outcomes.old outcomes.new (part_word result) }
+    ensures quiet { IfErr result (IsQuietInFault (S.broke outcomes.new) (V.quiet watcher.now)) }
 {
     let Ok(resting) = Resting::new(alloc, journal) else {
-        return Err(RunEnd::NoMemory);
+        return Err(Err(ReplayStop::NoMemory));
     };
     match outcomes.next(resting.flight()) {
         Next::Answer(answer) => match resting.take(answer) {
             Ok(journal) => Ok(Taken { answer, journal }),
             Err(back) => {
                 let journal = back.journal.into_journal();
-                Err(RunEnd::Unexpected(journal, back.answer))
+                Err(Err(ReplayStop::Unexpected(journal, back.answer)))
             }
         },
-        Next::Silent => Err(RunEnd::Whole(resting.into_known().into_journal())),
+        Next::Silent => Err(Ok(resting.into_known().into_journal())),
         Next::Failed => {
             let journal = resting.into_known().into_journal();
-            Err(RunEnd::SourceFault(journal))
+            Err(Err(ReplayStop::SourceFault(journal)))
         }
     }
 }
@@ -93,7 +92,7 @@ pub(crate) fn take_idle<'c, S: Outcomes, V: Watcher>(
     ensures agrees { S.agrees outcomes.old journal.entry.cluster journal.entry.events 0
         → IfOk result (λ later. S.agrees outcomes.new journal.entry.cluster later.events 0) }
     ensures agrees_at_end { S.agrees outcomes.old journal.entry.cluster journal.entry.events 0
-        → IfErr result (OfJournal (AgreesWith (S.agrees outcomes.new) journal.entry.cluster)) }
+        → IfErr result (OfMade (AgreesWith (S.agrees outcomes.new) journal.entry.cluster)) }
     ensures fitting { S.careful outcomes.old ≡ true → S.agrees outcomes.old journal.entry.cluster journal.entry.events 0 → IfErr result IsReplayExpected }
 
     ensures source { SourceLasts S.Outcomes outcomes.old outcomes.new (part_word result) }
@@ -112,6 +111,6 @@ pub(crate) fn take_idle<'c, S: Outcomes, V: Watcher>(
             Heard::Go => Ok(taken.journal),
             Heard::Stop => Err(Err(ReplayStop::Stopped(taken.journal.into_journal()))),
         },
-        Err(end) => Err(end.watched()),
+        Err(end) => Err(end),
     }
 }

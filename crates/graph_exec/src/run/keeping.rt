@@ -5,13 +5,13 @@ ghost use Rattle.cluster_types.specs.declared.journal.Answer.{Answer as AnswerOf
 ghost use Rattle.cluster_types.specs.declared.journal.Event.{Event as EventOf};
 ghost use Rattle.cluster_types.specs.Safety.{IsAtRest};
 ghost use Rattle.cluster_types.specs.Valid.{IsValid};
-ghost use Rattle.graph_exec.specs.Inner.Keeping.{KeepsEnd, KeepsTo, StaysOf, keeping_word, passed_end, watched_end};
+ghost use Rattle.graph_exec.specs.Inner.Keeping.{KeepsEnd, KeepsTo, StaysOf, keeping_word, passed_end};
 ghost use Rattle.graph_exec.specs.Lasting.{SourceLasts};
-ghost use Rattle.graph_exec.specs.Replays.{AgreesWith, IsReplayExpected, OfJournal, setting};
+ghost use Rattle.graph_exec.specs.Replays.{AgreesWith, IsReplayExpected, OfMade, setting};
 
 use crate::run::idling::ask_idle;
 use crate::run::planning::plan_anew;
-use crate::run::run_ending::RunEnd;
+use crate::run::stop::{Ended, ReplayStop};
 use crate::{End, KnownJournal, Outcomes, Unwatched, run_transition};
 use cluster_types::{NoMemory, Passed, PassedEnd, Placed};
 use listed::Listed;
@@ -86,7 +86,7 @@ pub(crate) fn keep_transition<'c, S: Outcomes>(
     journal: KnownJournal<'c>,
     outcomes: &mut S,
     passed: &mut Listed<Passed>,
-) -> Result<KnownJournal<'c>, RunEnd>
+) -> Result<KnownJournal<'c>, Ended>
     requires valid { IsValid journal.cluster }
     requires at_rest { IsAtRest journal.events }
     ensures goes_on { (es : List EventOf) (first : Option (List AnswerOf))
@@ -106,22 +106,22 @@ pub(crate) fn keep_transition<'c, S: Outcomes>(
     ensures agrees { S.agrees outcomes.old journal.entry.cluster journal.entry.events 0
         → IfOk result (λ later. S.agrees outcomes.new journal.entry.cluster later.events 0) }
     ensures agrees_at_end { S.agrees outcomes.old journal.entry.cluster journal.entry.events 0
-        → IfErr result (λ end. OfJournal (AgreesWith (S.agrees outcomes.new) journal.entry.cluster) (watched_end end)) }
+        → IfErr result (OfMade (AgreesWith (S.agrees outcomes.new) journal.entry.cluster)) }
     ensures fitting { S.careful outcomes.old ≡ true → S.agrees outcomes.old journal.entry.cluster journal.entry.events 0
-        → IfErr result (λ end. IsReplayExpected (watched_end end)) }
+        → IfErr result IsReplayExpected }
 
     ensures source { SourceLasts S.Outcomes outcomes.old outcomes.new (keeping_word result) }
 {
     let begins_at = journal.count();
     let Ok(planned) = plan_anew(alloc, journal) else {
-        return Err(RunEnd::NoMemory);
+        return Err(Err(ReplayStop::NoMemory));
     };
     let mut executor = planned.executor;
     let end = run_transition(&mut executor, outcomes);
     let later = executor.into_known();
     let ends_at = later.count();
     let Ok(()) = keep_behind(passed, planned.placed, begins_at, ends_at, passed_end(end)) else {
-        return Err(RunEnd::NoMemory);
+        return Err(Err(ReplayStop::NoMemory));
     };
     match end {
         End::Complete => match ask_idle(alloc, later, outcomes, &Unwatched) {
@@ -129,7 +129,9 @@ pub(crate) fn keep_transition<'c, S: Outcomes>(
             Err(ended) => Err(ended),
         },
         End::Aborted(_) => Ok(later),
-        End::Unexpected(answer) => Err(RunEnd::Unexpected(later.into_journal(), answer)),
-        End::SourceFault => Err(RunEnd::SourceFault(later.into_journal())),
+        End::Unexpected(answer) => {
+            Err(Err(ReplayStop::Unexpected(later.into_journal(), answer)))
+        },
+        End::SourceFault => Err(Err(ReplayStop::SourceFault(later.into_journal()))),
     }
 }

@@ -4,12 +4,13 @@ ghost use Rattle.std.specs.Prelude.{◌≡◌, ◌<◌, ◌^◌, true};
 ghost use Rattle.cluster_types.specs.Journals.{moment_of};
 ghost use Rattle.cluster_types.specs.Safety.{IsAtRest, IsSafeRun};
 ghost use Rattle.cluster_types.specs.Valid.{IsValid};
-ghost use Rattle.graph_exec.specs.Kept.{IsExpectedRun, KeepsAs, KeepsPlans, OfRun, kept_word};
+ghost use Rattle.graph_exec.specs.Kept.{KeepsAs, KeepsPlans, kept_word};
 ghost use Rattle.graph_exec.specs.Lasting.{SourceLasts};
-ghost use Rattle.graph_exec.specs.Replays.{AgreesWith, IsJournalKept};
+ghost use Rattle.graph_exec.specs.Replays.{AgreesWith, IsJournalKept, IsReplayExpected, OfMade};
 
 use crate::run::keeping::keep_transition;
-use crate::run::stop::ReplayEnd;
+use crate::run::run_ending::kept;
+use crate::run::stop::ReplayStop;
 use crate::{KnownJournal, Outcomes};
 use cluster_types::{Cluster, Journal, Run};
 use listed::Listed;
@@ -31,7 +32,7 @@ pub fn replay<S: Outcomes>(
     journal: Journal,
     outcomes: &mut S,
     most: u32,
-) -> Result<Run, ReplayEnd>
+) -> Result<Run, ReplayStop<Run>>
     requires valid { IsValid cluster.now }
     requires at_rest { IsAtRest journal.events }
     requires moment { moment_of journal.events < 2 ^ 64 }
@@ -39,27 +40,27 @@ pub fn replay<S: Outcomes>(
     // Which run was made, and how far; and what is kept of it.
     ensures run { KeepsAs cluster.now journal.promotions (S.whole outcomes.old) (S.steady outcomes.old) journal.events
         (S.rest outcomes.old) (S.rest outcomes.new) most result }
-    ensures plans { OfRun (KeepsPlans cluster.now journal.promotions most) result }
+    ensures plans { OfMade (KeepsPlans cluster.now journal.promotions most) result }
     ensures safe { IsSafeRun cluster.now journal.promotions (S.whole outcomes.old) journal.events (S.rest outcomes.old) }
-    ensures kept { OfRun (λ run. IsJournalKept journal.promotions run.journal) result }
+    ensures kept { OfMade (λ run. IsJournalKept journal.promotions run.journal) result }
 
     // What became of the source.
     ensures source { SourceLasts S.Outcomes outcomes.old outcomes.new (kept_word result) }
     ensures agrees { S.agrees outcomes.old cluster.now journal.events 0
-        → OfRun (λ run. AgreesWith (S.agrees outcomes.new) cluster.now run.journal) result }
-    ensures fitting { S.careful outcomes.old ≡ true → S.agrees outcomes.old cluster.now journal.events 0 → IsExpectedRun result }
+        → OfMade (λ run. AgreesWith (S.agrees outcomes.new) cluster.now run.journal) result }
+    ensures fitting { S.careful outcomes.old ≡ true → S.agrees outcomes.old cluster.now journal.events 0 → IsReplayExpected result }
 {
     valid_clusters_have_few_monitors();
     let Ok(mut known) = KnownJournal::new(alloc, cluster, journal) else {
-        return Err(ReplayEnd::NoMemory);
+        return Err(ReplayStop::NoMemory);
     };
     let mut passed = Listed::new(alloc);
     for _made in 0..most {
         known = match keep_transition(alloc, known, outcomes, &mut passed) {
             Ok(later) => later,
-            Err(end) => return end.kept(passed),
+            Err(end) => return kept(passed, end),
         };
     }
     let journal = known.into_journal();
-    Err(ReplayEnd::Most(Run { passed, journal }))
+    Err(ReplayStop::Most(Run { passed, journal }))
 }

@@ -2,31 +2,23 @@
 
 use cluster_types::{Answer, Journal, Run};
 
-/// Why a run ended before all was done. Each but the last hands back the journal so far.
+/// Why a run ended before all was done. Each but the last hands back what was made so far: its journal, or the run that is
+/// kept.
 #[derive(Drop)]
-pub enum ReplayStop {
+pub enum ReplayStop<T> {
     /// This answer came where one was asked for, and doesn't apply.
-    Unexpected(Journal, Answer),
+    Unexpected(T, Answer),
     /// The source failed where an answer was asked for.
-    SourceFault(Journal),
+    SourceFault(T),
     /// The watcher stopped it.
-    Stopped(Journal),
+    Stopped(T),
     /// As many transitions as were allowed were made, and another is due.
-    Most(Journal),
+    Most(T),
     NoMemory,
 }
 
 /// How a run ended: with all done, or before.
-pub(crate) type Ended = Result<Journal, ReplayStop>;
+pub(crate) type Ended = Result<Journal, ReplayStop<Journal>>;
 
-/// Why a run that is kept ended before all was done. Each but the last hands back the run so far.
-#[derive(Drop)]
-pub enum ReplayEnd {
-    /// This answer came where one was asked for, and doesn't apply.
-    Unexpected(Run, Answer),
-    /// The source failed where an answer was asked for.
-    SourceFault(Run),
-    /// As many transitions as were allowed were made, and another is due.
-    Most(Run),
-    NoMemory,
-}
+/// How a run ended that is kept.
+pub(crate) type KeptEnd = Result<Run, ReplayStop<Run>>;

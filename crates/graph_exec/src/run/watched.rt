@@ -6,7 +6,7 @@ ghost use Rattle.cluster_types.specs.Safety.{IsAtRest, IsSafeRun};
 ghost use Rattle.cluster_types.specs.Valid.{IsValid};
 ghost use Rattle.graph_exec.specs.Lasting.{SourceLasts, WatcherLasts};
 ghost use Rattle.graph_exec.specs.Telling.{view_between};
-ghost use Rattle.graph_exec.specs.Replays.{AgreesWith, IsQuietInFault, IsReplayExpected, IsJournalKept, IsShownEnd, OfJournal, ReplaysAs, replay_heard, replay_word, setting, sight};
+ghost use Rattle.graph_exec.specs.Replays.{AgreesWith, IsQuietInFault, IsReplayExpected, IsJournalKept, IsShownEnd, OfMade, ReplaysAs, replay_heard, replay_word, setting, sight};
 
 use crate::run::stop::ReplayStop;
 use crate::run::turning::make_transition;
@@ -32,7 +32,7 @@ pub fn replay_watched<S: Outcomes, V: Watcher>(
     outcomes: &mut S,
     watcher: &mut V,
     most: u32,
-) -> Result<Journal, ReplayStop>
+) -> Result<Journal, ReplayStop<Journal>>
     requires valid { IsValid cluster.now }
     requires at_rest { IsAtRest journal.events }
     requires moment { moment_of journal.events < 2 ^ 64 }
@@ -44,11 +44,11 @@ pub fn replay_watched<S: Outcomes, V: Watcher>(
         (sight (S.rest outcomes.old) (S.over outcomes.old))
         (sight (S.rest outcomes.new) (S.over outcomes.new)) most result }
     ensures safe { IsSafeRun cluster.now journal.promotions (S.whole outcomes.old) journal.events (S.rest outcomes.old) }
-    ensures kept { OfJournal (IsJournalKept journal.promotions) result }
+    ensures kept { OfMade (IsJournalKept journal.promotions) result }
 
     // What became of the source.
     ensures source { SourceLasts S.Outcomes outcomes.old outcomes.new (replay_word result) }
-    ensures agrees { S.agrees outcomes.old cluster.now journal.events 0 → OfJournal (AgreesWith (S.agrees outcomes.new) cluster.now) result }
+    ensures agrees { S.agrees outcomes.old cluster.now journal.events 0 → OfMade (AgreesWith (S.agrees outcomes.new) cluster.now) result }
     ensures fitting { S.careful outcomes.old ≡ true → S.agrees outcomes.old cluster.now journal.events 0 → IsReplayExpected result }
 
     // What became of the watcher.

@@ -49,20 +49,11 @@ returns-in-Stop-taken-clause-watcher g c =
 -- none came that applies
 
 pub returns-in-Err-clause-ends : goal.returns-in-Err-clause-ends
-returns-in-Err-clause-ends g c = rw c.watched.ensures (ends_unanswered _ _ _ c.args.journal _ _ _ _ _ (c.in_default.ensures.follows refl) _ c.in-Err.end c.in-Err.ensures.unanswered)
-
-pub returns-in-Err-clause-agrees_at_end : goal.returns-in-Err-clause-agrees_at_end
-returns-in-Err-clause-agrees_at_end g c h = rw c.watched.ensures (c.in-Err.ensures.agrees_at_end h)
-
-pub returns-in-Err-clause-fitting : goal.returns-in-Err-clause-fitting
-returns-in-Err-clause-fitting g c careful h = rw c.watched.ensures (c.in-Err.ensures.fitting careful h)
-
-pub returns-in-Err-clause-source : goal.returns-in-Err-clause-source
-returns-in-Err-clause-source g c = rw c.watched.ensures c.in-Err.ensures.source
+returns-in-Err-clause-ends g c = ends_unanswered _ _ _ c.args.journal _ _ _ _ _ (c.in_default.ensures.follows refl) _ c.in-Err.end c.in-Err.ensures.unanswered
 
 pub returns-in-Err-clause-watcher : goal.returns-in-Err-clause-watcher
 returns-in-Err-clause-watcher g c =
-    rw c.watched.ensures (watcher_unanswered g.V.Watcher _ _ c.in-Err.end c.in_default.ensures.watcher)
+    watcher_unanswered g.V.Watcher _ _ _ c.args.journal _ _ _ c.in-Err.end c.in-Err.ensures.unanswered c.in_default.ensures.watcher
 
 -- what the watcher has been shown
 
@@ -80,4 +71,4 @@ returns-in-Stop-taken-clause-shown_at_end g c h =
 
 pub returns-in-Err-clause-shown_at_end : goal.returns-in-Err-clause-shown_at_end
 returns-in-Err-clause-shown_at_end g c h =
-    rw c.watched.ensures (shown_unanswered (g.V.Watcher.shown c.wait_for.new.watcher) c.args.journal _ _ _ _ c.in-Err.end c.in-Err.ensures.unanswered (c.in_default.ensures.shown _ h))
+    shown_unanswered (g.V.Watcher.shown c.wait_for.new.watcher) c.args.journal _ _ _ _ c.in-Err.end c.in-Err.ensures.unanswered (c.in_default.ensures.shown _ h)
