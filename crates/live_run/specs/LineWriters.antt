@@ -9,8 +9,8 @@ abbrev pub writer_cluster : {W : Type 0} {g : _} → LineWriter W g → Cluster
 writer_cluster writer = writer.cluster.now
 
 -- what it holds back
-abbrev pub held_by : {W : Type 0} {g : _} → LineWriter W g → List ℕ
-held_by writer = writer.held.now
+abbrev pub writer_held : {W : Type 0} {g : _} → LineWriter W g → List ℕ
+writer_held writer = writer.held.now
 
 -- its sink, and the name of the loan by which it has it
 abbrev pub sink_of : {W : Type 0} {g : _} → LineWriter W g → W

@@ -41,7 +41,7 @@ pub(crate) fn heard_of(done: Result<(), WriteFault>) -> Heard
 }
 
 impl<'c, 's, W: Sink> LineWriter<'c, 's, W> {
-    ghost use Rattle.live_run.specs.LineWriters.{held_by, writer_cluster, writer_loan, sink_of};
+    ghost use Rattle.live_run.specs.LineWriters.{writer_held, writer_cluster, writer_loan, sink_of};
 
     /// A writer that writes to the sink, by the names of a valid cluster. It is lent the memory for what
     /// is held back, which is nothing yet.
@@ -53,7 +53,7 @@ impl<'c, 's, W: Sink> LineWriter<'c, 's, W> {
         requires valid { IsValid cluster.now }
         requires empty { held.old ≡ [] }
         ensures cluster { writer_cluster result ≡ cluster.now }
-        ensures held { held_by result ≡ [] }
+        ensures held { writer_held result ≡ [] }
         ensures sink { sink_of result ≡ sink.old }
         ensures same_sink { writer_loan result ≡ sink.entry.ghost_name }
     {
@@ -68,7 +68,7 @@ impl<'c, 's, W: Sink> LineWriter<'c, 's, W> {
 
     /// All that is held back leaves: the run has no more lines.
     pub fn finish(&mut self) -> Result<(), WriteFault>
-        ensures text { Puts result (held_by self.old) (W.written (sink_of self.old)) (W.written (sink_of self.new)) }
+        ensures text { Puts result (writer_held self.old) (W.written (sink_of self.old)) (W.written (sink_of self.new)) }
         ensures bears { Bears W.counts_only_failures (IsErr result) (W.faults (sink_of self.old)) (W.faults (sink_of self.new)) }
         ensures same_sink { IsSameSink (writer_loan self.old) (writer_loan self.new) }
     {
@@ -78,7 +78,7 @@ impl<'c, 's, W: Sink> LineWriter<'c, 's, W> {
     /// Writes `unexpected LINE` behind all that is held back: the last line of a run that is cut by an answer at this line
     /// which doesn't apply.
     pub fn unexpected(&mut self, line: u32) -> Result<(), WriteFault>
-        ensures text { Puts result (held_by self.old ++ texts.run_line (writer_cluster self.old) (told.Unexpected line))
+        ensures text { Puts result (writer_held self.old ++ texts.run_line (writer_cluster self.old) (told.Unexpected line))
             (W.written (sink_of self.old)) (W.written (sink_of self.new)) }
         ensures bears { Bears W.counts_only_failures (IsErr result) (W.faults (sink_of self.old)) (W.faults (sink_of self.new)) }
         ensures same_sink { IsSameSink (writer_loan self.old) (writer_loan self.new) }
@@ -94,7 +94,7 @@ impl<'c, 's, W: Sink> LineWriter<'c, 's, W> {
 
     /// Writes `refused LINE CAUSE` behind all that is held back: the last line of a run that asks for a line which isn't read.
     pub fn refused(&mut self, line: u32, cause: LineCause) -> Result<(), WriteFault>
-        ensures text { Puts result (held_by self.old ++ line_refusal_text line cause) (W.written (sink_of self.old)) (W.written (sink_of self.new)) }
+        ensures text { Puts result (writer_held self.old ++ line_refusal_text line cause) (W.written (sink_of self.old)) (W.written (sink_of self.new)) }
         ensures bears { Bears W.counts_only_failures (IsErr result) (W.faults (sink_of self.old)) (W.faults (sink_of self.new)) }
         ensures same_sink { IsSameSink (writer_loan self.old) (writer_loan self.new) }
     {

@@ -12,7 +12,7 @@ ghost use Rattle.live_run.specs.LineSources.{outcomes_loan, outcomes_source, sta
 ghost use Rattle.live_run.specs.declared.live_end.LiveEnd.{LiveEnd as LiveEndOf};
 ghost use Rattle.live_run.specs.Ends.{IsDueText};
 ghost use Rattle.live_run.specs.declared.line_stop.LineStop.TheVariants.{ReadFault};
-ghost use Rattle.live_run.specs.LineWriters.{held_by, writer_cluster, writer_loan, sink_of};
+ghost use Rattle.live_run.specs.LineWriters.{writer_held, writer_cluster, writer_loan, sink_of};
 ghost use Rattle.live_run.specs.Writing.{IsSameSink};
 ghost use Rattle.live_run.specs.Reached.{Reaches, results_behind};
 ghost use Rattle.live_run.specs.Inner.RunEnds.{EndsCut, EndsDone, EndsLines, EndsWithoutMemory};
@@ -29,7 +29,7 @@ const MOST_TRANSITIONS: u32 = 10_001;
 
 /// How a run ends that is whole.
 fn end_of_whole<W: Sink>(writer: &mut LineWriter<'_, '_, W>) -> LiveEnd
-    ensures text { EndsDone (held_by writer.old) result (W.written (sink_of writer.old)) (W.written (sink_of writer.new)) }
+    ensures text { EndsDone (writer_held writer.old) result (W.written (sink_of writer.old)) (W.written (sink_of writer.new)) }
     ensures bears { Bears W.counts_only_failures (result ≡ LiveEnd.WriteFault) (W.faults (sink_of writer.old)) (W.faults (sink_of writer.new)) }
     ensures same_sink { IsSameSink (writer_loan writer.old) (writer_loan writer.new) }
 {
@@ -41,7 +41,7 @@ fn end_of_whole<W: Sink>(writer: &mut LineWriter<'_, '_, W>) -> LiveEnd
 
 /// How a run ends when memory runs out.
 fn end_without_memory<W: Sink>(writer: &mut LineWriter<'_, '_, W>) -> LiveEnd
-    ensures text { EndsWithoutMemory (held_by writer.old) result (W.written (sink_of writer.old)) (W.written (sink_of writer.new)) }
+    ensures text { EndsWithoutMemory (writer_held writer.old) result (W.written (sink_of writer.old)) (W.written (sink_of writer.new)) }
     ensures bears { Bears W.counts_only_failures (result ≡ LiveEnd.WriteFault) (W.faults (sink_of writer.old)) (W.faults (sink_of writer.new)) }
     ensures same_sink { IsSameSink (writer_loan writer.old) (writer_loan writer.new) }
 {
@@ -56,7 +56,7 @@ fn end_of_cut<S: Source, W: Sink>(
     outcomes: &LineOutcomes<'_, '_, S>,
     writer: &mut LineWriter<'_, '_, W>,
 ) -> LiveEnd
-    ensures text { EndsCut (held_by writer.old ++ run_line (writer_cluster writer.old) (told.Unexpected (standing_of outcomes.now).line)) result
+    ensures text { EndsCut (writer_held writer.old ++ run_line (writer_cluster writer.old) (told.Unexpected (standing_of outcomes.now).line)) result
         (W.written (sink_of writer.old)) (W.written (sink_of writer.new)) }
     ensures bears { Bears W.counts_only_failures (result ≡ LiveEnd.WriteFault) (W.faults (sink_of writer.old)) (W.faults (sink_of writer.new)) }
     ensures same_sink { IsSameSink (writer_loan writer.old) (writer_loan writer.new) }
@@ -73,7 +73,7 @@ fn end_of_lines<S: Source, W: Sink>(
     outcomes: &LineOutcomes<'_, '_, S>,
     writer: &mut LineWriter<'_, '_, W>,
 ) -> LiveEnd
-    ensures text { EndsLines (held_by writer.old) (stop_of (standing_of outcomes.now)) result (W.written (sink_of writer.old)) (W.written (sink_of writer.new)) }
+    ensures text { EndsLines (writer_held writer.old) (stop_of (standing_of outcomes.now)) result (W.written (sink_of writer.old)) (W.written (sink_of writer.new)) }
     ensures bears { Bears W.counts_only_failures (result ≡ LiveEnd.WriteFault) (W.faults (sink_of writer.old)) (W.faults (sink_of writer.new)) }
     ensures same_sink { IsSameSink (writer_loan writer.old) (writer_loan writer.new) }
 {
@@ -104,7 +104,7 @@ fn run_to_end<S: Source, W: Sink>(
     requires fresh { standing_of outcomes.old
         ≡ starting cluster.now (moment_of journal.events) (standing_of outcomes.old).lines.reading }
     requires names { writer_cluster writer.old ≡ cluster.now }
-    requires empty { held_by writer.old ≡ [] }
+    requires empty { writer_held writer.old ≡ [] }
     ensures reaches { IfSome (S.left (outcomes_source outcomes.old)) (λ left. Reaches cluster.now journal (standing_of outcomes.old).lines.reading left
         (S.left (outcomes_source outcomes.new)) (W.written (sink_of writer.old)) (W.written (sink_of writer.new)) result) }
     ensures at_end { result ≡ LiveEnd.Done → IfSome (S.left (outcomes_source outcomes.new)) (λ left. left ≡ []) }

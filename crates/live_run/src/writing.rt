@@ -9,7 +9,7 @@ use trace_text::RunLineRef;
 
 impl<'c, 's, W: Sink> Watcher for LineWriter<'c, 's, W> {
     ghost use Rattle.std.specs.Prelude.{◌≡◌, []};
-    ghost use Rattle.live_run.specs.LineWriters.{held_by, writer_cluster, sink_of, writer_view};
+    ghost use Rattle.live_run.specs.LineWriters.{writer_held, writer_cluster, sink_of, writer_view};
     ghost use Rattle.live_run.specs.Writing.{HasFailedBehind, HasWrittenLines, with_last};
     ghost use Rattle.live_run.specs.FollowedLaws.{lines_itself, lines_later, lines_then};
 
@@ -19,7 +19,7 @@ impl<'c, 's, W: Sink> Watcher for LineWriter<'c, 's, W> {
 
     ghost stopped = { λ old new lines at. HasFailedBehind W.counts_only_failures (writer_view W.written W.faults old) (writer_view W.written W.faults new) (with_last lines at) };
 
-    ghost quiet = { λ w. held_by w ≡ [] };
+    ghost quiet = { λ w. writer_held w ≡ [] };
 
     ghost shown = { λ _ _ _. Unit {0} };
 
