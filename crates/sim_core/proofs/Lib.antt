@@ -23,3 +23,4 @@ pub mod FewLines
 pub mod Exclusive
 pub mod OneFault
 pub mod OwnAnswers
+pub mod WrittenFronts
