@@ -13,7 +13,7 @@ use crate::held_text::HeldText;
 use crate::line_stop::LineCause;
 use cluster_io::{Sink, WriteFault, write_text};
 use cluster_types::{Cluster, Placed};
-use trace_text::{LineBuf, LinePlace, RunLineRef, next_target_line, write_line};
+use trace_text::{LineBuf, LinePlace, RunLineRef, next_target_line, write_line, write_refusal};
 
 /// All that is held back leaves, by one `write_text`.
 pub(crate) fn flush<W: Sink>(sink: &mut W, held: &mut HeldText) -> Result<(), WriteFault>
@@ -93,18 +93,6 @@ pub(crate) fn put_plan<W: Sink>(
     Ok(())
 }
 
-/// `refused LINE CAUSE`, in place of what the buffer has.
-fn write_refusal(buf: &mut LineBuf, line: u32, cause: LineCause)
-    ensures text { buf.new ≡ line_refusal_text line cause }
-{
-    buf.clear();
-    buf.put(b"refused ");
-    buf.put_number(line as u64);
-    buf.put(b" ");
-    buf.put(cause.name().as_bytes());
-    buf.put(b"\n");
-}
-
 /// Holds back the line of a run as the last one, and all leaves.
 pub(crate) fn put_last<W: Sink>(
     cluster: &Cluster,
@@ -135,7 +123,7 @@ pub(crate) fn put_refusal<W: Sink>(
     ensures held { held.new ≡ [] }
     ensures bears { Bears W.counts_only_failures (IsErr result) (W.faults sink.old) (W.faults sink.new) }
 {
-    write_refusal(buf, line, cause);
+    write_refusal(line, cause.name(), buf);
     push(sink, held, buf.as_slice())?;
     flush(sink, held)
 }

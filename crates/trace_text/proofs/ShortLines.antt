@@ -137,3 +137,13 @@ module _ (c : Cluster) (names : HasShortNames c) where
       let s = ended_by 40 800 (codes "begin " ++ decimal k) (action_text c a) (numbered (codes "begin ") k (omega arith) h.0) (short_action a h.1) in
       line_of (codes "begin " ++ decimal k ++ codes " " ++ action_text c a) (omega (arith, s))
   short_line (lent.Taken given) _ h = let s = short_answer given h in line_of (answer_text c given) (omega (arith, s))
+
+-- the line of a refusal, by the name of a cause
+pub short_refusal : (line : ℕ) (cause : List ℕ) → length cause ≤ 100 → HasFewDigits line
+    → length (codes "refused " ++ decimal line ++ codes " " ++ cause ++ codes "\n") ≤ 1024
+short_refusal line cause name digits =
+    let number = behind 8 20 (codes "refused ") (decimal line) (omega arith) digits in
+    let space = behind 28 1 (codes "refused " ++ decimal line) (codes " ") number (omega arith) in
+    let named = behind 29 100 (codes "refused " ++ decimal line ++ codes " ") cause space name in
+    let all = behind 129 1 (codes "refused " ++ decimal line ++ codes " " ++ cause) (codes "\n") named (omega arith) in
+    omega (arith, all)

@@ -34,7 +34,7 @@ pub use loss_lines::survive_text;
 pub use names::{node_name, push_leaf_on};
 pub use numbers::push_number;
 pub use run_line_ref::RunLineRef;
-pub use run_lines::write_line;
+pub use run_lines::{write_line, write_refusal};
 pub use runs::run_text;
 pub use score_lines::{push_decision, push_total, score_text};
 pub use target_walk::{LineColumn, LinePlace, next_target_line, push_targets};

@@ -1,6 +1,6 @@
 //! The lines of a run.
 
-ghost use Rattle.std.specs.Prelude.{◌≡◌, ◌++◌, codes, decimal, OnErr, OnOk};
+ghost use Rattle.std.specs.Prelude.{◌≡◌, ◌≤◌, ◌++◌, codes, decimal, length, OnErr, OnOk};
 ghost use Rattle.cluster_types.specs.declared.cluster.Cluster.{Cluster as ClusterOf};
 ghost use Rattle.cluster_types.specs.Fields.{leaf_name};
 ghost use Rattle.cluster_types.specs.Texts as texts;
@@ -11,7 +11,7 @@ use crate::line_text::LineText;
 use crate::names::{node_name, put_leaf_on};
 use crate::numbers::put_number;
 use crate::run_line_ref::RunLineRef;
-use crate::short_numbers::line_is_short;
+use crate::short_numbers::{line_is_short, number_is_short};
 use cluster_types::{Action, Answer, Cluster, LeafId, NoReason, NodeId, Op, Pin, Target};
 use faults::NoMemory;
 
@@ -345,6 +345,32 @@ pub fn write_line(cluster: &Cluster, line: &RunLineRef<'_>, text: &mut LineBuf)
     line_is_short(line);
     text.clear();
     match put_line(text, cluster, line) {
+        Ok(()) => {}
+        Err(_) => unreachable!(),
+    }
+}
+
+/// `refused LINE CAUSE`, with its line feed.
+fn put_refusal<T: LineText>(text: &mut T, line: u32, cause: &str) -> Result<(), NoMemory>
+    ensures text { OnOk result (T.kept text.new ≡ T.more (T.kept text.old)
+        (codes "refused " ++ decimal line ++ codes " " ++ cause.now ++ codes "\n")) }
+    ensures fails { OnErr result T.may_fail }
+{
+    put_numbered(text, b"refused ", line as u64)?;
+    text.put(b" ")?;
+    text.put(cause.as_bytes())?;
+    text.put(b"\n")
+}
+
+/// Writes `refused LINE CAUSE`, with its line feed, in place of what the buffer has: the last line of a run that asks for a
+/// line which isn't read. It takes no memory. It asks for the name of a cause of at most 100 bytes. Rule of this project.
+pub fn write_refusal(line: u32, cause: &str, text: &mut LineBuf)
+    requires { length cause.now ≤ 100 }
+    ensures { text.new ≡ codes "refused " ++ decimal line ++ codes " " ++ cause.now ++ codes "\n" }
+{
+    number_is_short(line as u64);
+    text.clear();
+    match put_refusal(text, line, cause) {
         Ok(()) => {}
         Err(_) => unreachable!(),
     }

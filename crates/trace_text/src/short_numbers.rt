@@ -5,7 +5,7 @@ ghost use Rattle.trace_text.specs.Inner.ShortNumbers.{HasFewDigits, IsActionShor
 use crate::run_line_ref::RunLineRef;
 use cluster_types::{Action, Answer};
 
-fn number_is_short(number: u64)
+pub(crate) fn number_is_short(number: u64)
     ensures { HasFewDigits number }
 {}
 
