@@ -14,3 +14,5 @@ pub mod Readers
 pub mod Written
 pub mod HeadBringing
 pub mod HeadLines
+pub mod LinesJoined
+pub mod AllRead
