@@ -44,12 +44,12 @@ abbrev pub results_row : Line → Bool
 results_row line = heads.begins_results line.words
 
 -- what is read of a logical line that has no fault: its words
-words_read : (n : ℕ) (group : List (List ℕ)) → physical_lines (concat group) ≡ group → faults n group ≡ [] → reads_line n (concat group) ≡ Ok (words_of (line_text group))
+pub words_read : (n : ℕ) (group : List (List ℕ)) → physical_lines (concat group) ≡ group → faults n group ≡ [] → reads_line n (concat group) ≡ Ok (words_of (line_text group))
 words_read n group own clean =
     ap (λ (lines : List (List ℕ)). unless (first_lex_fault (faults n lines)) (words_of (line_text lines))) own
     ∙ ap (λ (found : List (Fault LexCause)). unless (first_lex_fault found) (words_of (line_text group))) clean
 
-begins_as : (n : ℕ) (words more : List (List ℕ)) (rows : List Line) → list_any results_row (row n words ++ rows) ≡ false
+pub begins_as : (n : ℕ) (words more : List (List ℕ)) (rows : List Line) → list_any results_row (row n words ++ rows) ≡ false
     → (heads.begins_results words ≡ false) × (list_any results_row rows ≡ false)
 begins_as n [] more rows e = (refl, e)
 begins_as n (word ∷ words) more rows e = or_parts (is word (codes "%results")) (list_any results_row rows) e

@@ -16,3 +16,4 @@ pub mod HeadBringing
 pub mod HeadLines
 pub mod LinesJoined
 pub mod AllRead
+pub mod AllTaken

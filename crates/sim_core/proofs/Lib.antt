@@ -27,3 +27,4 @@ pub mod TraceSections
 pub mod PlainResults
 pub mod TraceRead
 pub mod ReplayAgain
+pub mod InputAgain

@@ -48,7 +48,7 @@ use Rattle.sim_core.proofs.TraceRead.{HasStarted, IsHeadOf, RunAnew, first_resul
 use Rattle.sim_core.proofs.TraceSections.{first_behind, misplaced_parts, results_line}
 
 -- both tests say whether a line begins the results
-same_test : (rows : List Line) → list_any results_line rows ≡ false → list_any results_row rows ≡ false
+pub same_test : (rows : List Line) → list_any results_line rows ≡ false → list_any results_row rows ≡ false
 same_test rows none = same rows ∙ none
   where
     one : (words : List (List ℕ)) (n : ℕ) → results_row (record { line = n; words = words }) ≡ results_line (record { line = n; words = words })
@@ -63,7 +63,7 @@ same_test rows none = same rows ∙ none
 results_utf8 : is_utf8 (content results_begin) ≡ true
 results_utf8 = is_utf8-from_IsUtf8 (codes "%results") (clean-ascii (codes "%results") refl).utf8
 
-results_clean : (n : ℕ) → faults n (results_begin ∷ []) ≡ []
+pub results_clean : (n : ℕ) → faults n (results_begin ∷ []) ≡ []
 results_clean n = rw results_utf8 refl
 
 trace_utf8 : is_utf8 (content trace_begins) ≡ true
@@ -73,7 +73,7 @@ trace_clean : (n : ℕ) → faults n (trace_begins ∷ []) ≡ []
 trace_clean n = rw trace_utf8 refl
 
 -- the line that begins the results ends a head
-mark_ends : (n : ℕ) → heads.line_by_words (reads_line n (concat (results_begin ∷ []))) ≡ heads.ends_head
+pub mark_ends : (n : ℕ) → heads.line_by_words (reads_line n (concat (results_begin ∷ []))) ≡ heads.ends_head
 mark_ends n = rw results_utf8 refl
 
 place : (one : List ℕ) (n room : ℕ) (other : List ℕ) (m left : ℕ) → heads.taken one n room ≡ heads.taken other m left → n ≡ m
