@@ -12,6 +12,8 @@ pub mod NoFault
 pub mod Few
 pub mod Readers
 pub mod Written
+pub mod Ready
+pub mod Held
 pub mod HeadBringing
 pub mod HeadLines
 pub mod LinesJoined

@@ -4,7 +4,6 @@ use Rattle.std.proofs.Math.Seq.{take-length}
 use Rattle.std.proofs.lemmas.Grind.{flat_map-append}
 use Rattle.std.proofs.lemmas.List.{append_cancel_right, map-append}
 use Rattle.std.proofs.lemmas.Option.{same_Some}
-use Rattle.cluster_io.proofs.Pieces.{Adds-then as adds_then}
 use Rattle.cluster_io.specs.NextLine.{IsUndecided}
 use Rattle.cluster_io.specs.Readings.{Reading}
 use Rattle.cluster_io.specs.Streams.{Adds, AddsPrefix}
@@ -15,32 +14,34 @@ use Rattle.cluster_types.specs.declared.journal.Journal.{Journal}
 use Rattle.cluster_types.specs.declared.run.RunLine.{RunLine}
 use Rattle.cluster_types.specs.declared.run.RunLine.TheVariants as line
 use Rattle.cluster_types.specs.Journals.{moment_of}
-use Rattle.cluster_types.specs.Runs.{due, IsCutRun, IsRunSoFar, IsStoppedRun, IsWholeRun}
+use Rattle.cluster_types.specs.Runs.{RunStanding, due, amid, idle, Runs, here, IsAsking, IsBetween, IsCutRun, IsOver, IsRunSoFar, IsStoppedRun, IsWholeRun}
 use Rattle.cluster_types.specs.Texts.{run_line}
 use Rattle.crm_lex.specs.RawLines.{raw_lines}
 use Rattle.live_run.specs.Coming.{Coming, coming, no_more}
 use Rattle.live_run.specs.Courses.{SourceState, answers_to_come, in_course, rest_of, starting, stop_of, coming_to, told_by, whole_of, why_stopped}
 use Rattle.live_run.specs.Followed.{AreNear, NoneOrLastSays, SourceFollows, HasAnswered, HasBroken, HasQuestionFailed, HasStopped, RestsBehind, View, answers, by_line, by_source, bytes_of, last_line, results_first, said_by, stays}
 use Rattle.live_run.specs.Saying.{is_last}
-use Rattle.live_run.specs.Writing.{line_refusal_text}
-use Rattle.live_run.proofs.Written.{prefix_first, prefix_then, stopped_text}
+use Rattle.live_run.specs.LineCauses.{line_refusal_text}
+use Rattle.live_run.specs.Inner.Fronts.{prefix_first}
+use Rattle.live_run.proofs.Written.{all_left, all_out, front_left, front_out, none_left}
 use Rattle.live_run.specs.declared.course.Course.{Course}
 use Rattle.live_run.specs.declared.course.Course.TheVariants as course
 use Rattle.live_run.specs.declared.line_stop.LineStop.{LineStop}
 use Rattle.live_run.specs.declared.line_stop.LineStop.TheVariants as why
 use Rattle.live_run.specs.Ends.{AsksForMore, EndGets, CutRunGives, IsDueText, WholeRunGives, run_lines_text}
-use Rattle.live_run.specs.Reached.{AskedFor, AskedForAll, IsBrokenOff, Reaches, in_run, of_refusal, of_unexpected, results_behind}
-use Rattle.live_run.specs.Inner.RunEnds.{EndsCut, EndsLines}
+use Rattle.live_run.specs.Reached.{AskedFor, AskedForAll, IsBrokenOff, IsCutOff, Reaches, at_rest, in_run, of_refusal, of_unexpected, results_behind}
+use Rattle.live_run.specs.Inner.RunEnds.{EndsCut, EndsDone, EndsLines, EndsWithoutMemory}
 use Rattle.live_run.specs.declared.live_end.LiveEnd.{LiveEnd}
 use Rattle.live_run.specs.declared.live_end.LiveEnd.TheVariants as end
 use Rattle.live_run.proofs.Behind.{answer_in, runs_back, says_next, last_one, line_of_last, answers_size}
 use Rattle.live_run.proofs.Dues.{begins_due, one_end}
 use Rattle.input_reading.specs.declared.results.result_lines.ResultLine.{ResultLine}
 use Rattle.graph_exec.specs.Replays.{setting, sight}
-use Rattle.live_run.specs.Writing.{WritesLines, WritesUpTo}
+use Rattle.graph_exec.proofs.Whole.{asks_still}
+use Rattle.live_run.specs.Writing.{GoesOut, with_last}
 use Rattle.graph_exec.specs.Replays as replays
 use Rattle.graph_exec.specs.RunEnds.{at_most, in_failure, unexpected, with_all}
-use Rattle.run_safety.specs.Followed.{IsFront}
+use Rattle.run_safety.specs.Followed.{IsFront, at_first}
 use Rattle.run_safety.proofs.Between.{ends_between}
 use Rattle.run_safety.proofs.Counted.{never_most}
 use Rattle.live_run.proofs.Few.{few_results}
@@ -204,48 +205,98 @@ module _ (c : Cluster) (journal : Journal) (reading : Reading) where
     reaches how = IfSome before (λ left. Reaches c journal reading left after old new how)
 
   -- what the writer has come to says what was written
-  module _ (Follows : List RunLine → Type 0) (Stopped : List RunLine → RunLine → Type 0) where
-    abbrev Tells : Option (List ℕ) → Option (List ℕ) → Type 0
-    Tells old new = (lines : List RunLine) → Follows lines → WritesLines c old new lines
+  module _ (Follows : List RunLine → Type 0) (Stopped : List RunLine → Option RunLine → Type 0) where
+    abbrev Tells : Option (List ℕ) → Option (List ℕ) → List ℕ → Type 0
+    Tells old new held = (lines : List RunLine) → Follows lines → GoesOut (run_lines_text c lines) [] held old new
 
-    done_reached : (before after old new : Option (List ℕ)) (t : SourceState) (was is : Bool) (j : Journal) → Tells old new
-        → replays.IsTold Follows Stopped (along before after old new t was is) journal.events (sight (rest_of (told_by start before)) was) (sight (rest_of (told_by t after)) is) j with_all
-        → reaches before after old new t was is end.Done
-    done_reached None after old new t was is j tells w = tt
-    done_reached (Some left) after old new t was is j tells w = record {
-      text = run_lines_text c w.lines;
-      gets = record { lines = w.lines; run = whole_by (results_behind c journal reading left) w.lines j.events w.ended.run; printed = refl };
-      added = (tells w.lines w.told);
-    }
+    -- where nothing is to be done, it stands between two transitions
+    over_between : (whole : Bool) (at : RunStanding) (rest : Option (List Answer)) → IsOver c journal.promotions whole at rest → IsBetween c journal.promotions whole at
+    over_between whole (due k es) rest over = tt
+    over_between whole (amid k u since) rest over = absurd over
+    over_between whole (idle k es) rest over = tt
+
+    -- the sink fails where the run stands and rests, and no line was asked for since
+    rest_cut : (left : List ℕ) (after old new : Option (List ℕ)) (t : SourceState) → SourceFollows start t (Some left) after → (lines : List RunLine) (at : RunStanding)
+        → Runs c journal.promotions (is_none (results_behind c journal reading left).stop) (due 1 journal.events) (Some (answers_to_come (results_behind c journal reading left))) lines at
+        (rest_of (told_by t after))
+        → IsAsking c journal.promotions (is_none (results_behind c journal reading left).stop) at ⊎ IsBetween c journal.promotions (is_none (results_behind c journal reading left).stop) at
+        → AddsPrefix (run_lines_text c lines) old new → IsCutOff c journal reading left after old new
+    rest_cut left after old new t f lines at runs rests front =
+        let g = given_by left after t f in
+        let coming = results_behind c journal reading left in
+        let run = subst (λ (x : Option (List Answer)). Runs c journal.promotions (is_none coming.stop) (due 1 journal.events) (Some (answers_to_come coming)) lines at x) g.rest runs in
+        record {
+          call = at_rest (record {
+            printed = lines;
+            at = at;
+            asked = record { results = g.given; stop = None };
+            behind = g.behind;
+            split = g.split;
+            run = run;
+            rests = rests;
+            one_more = inl refl;
+          });
+          read = g.read;
+          front = subst (λ (x : List ℕ). AddsPrefix x old new) (sym (append-nil (run_lines_text c lines))) front;
+          begins = λ other whole gets.
+              front_prefix (run_lines_text c lines) whole old new (begins_due c journal coming at (Some (map answer_in g.behind)) lines other whole run gets) front;
+        }
+
+    done_reached : (before after old middle new : Option (List ℕ)) (held : List ℕ) (t : SourceState) (was is : Bool) (j : Journal) → Tells old middle held
+        → replays.IsTold Follows Stopped (along before after old middle t was is) journal.events (sight (rest_of (told_by start before)) was) (sight (rest_of (told_by t after)) is) j with_all
+        → SourceFollows start t before after → (how : LiveEnd) → EndsDone held how middle new → reaches before after old new t was is how
+    done_reached None after old middle new held t was is j tells w f how e = tt
+    done_reached (Some left) after old middle new held t was is j tells w f how e = by how e
+      where
+        all : Coming
+        all = results_behind c journal reading left
+
+        runs : Runs c journal.promotions (is_none all.stop) (due 1 journal.events) (Some (answers_to_come all)) w.lines w.ended.run.last (rest_of (told_by t after))
+        runs =
+            subst (λ (x : Option (List Answer)). Runs c journal.promotions (is_none all.stop) (due 1 journal.events) (Some (answers_to_come all)) w.lines w.ended.run.last x) (sym w.ended.unread)
+            w.ended.run.steps
+
+        by : (k : LiveEnd) → EndsDone held k middle new → Reaches c journal reading left after old new k
+        by end.Done put = record {
+          text = run_lines_text c w.lines;
+          gets = record { lines = w.lines; run = whole_by all w.lines j.events w.ended.run; printed = refl };
+          added = all_left (run_lines_text c w.lines) held old middle new (tells w.lines w.told) put;
+        }
+        by end.WriteFault put =
+            rest_cut left after old new t f w.lines w.ended.run.last runs (inr (over_between (is_none all.stop) w.ended.run.last w.ended.run.behind w.ended.run.over))
+            (front_left (run_lines_text c w.lines) held old middle new (tells w.lines w.told) put)
+        by end.Unexpected put = absurd put
+        by end.Refused put = absurd put
+        by end.TooLarge put = absurd put
+        by end.ReadFault put = absurd put
+        by end.NoMemory put = absurd put
 
     -- behind a run that is cut
-    unexpected_reached : (before after old middle new : Option (List ℕ)) (t : SourceState) (was is : Bool) (j : Journal) (a : Answer) → Tells old middle
+    unexpected_reached : (before after old middle new : Option (List ℕ)) (held : List ℕ) (t : SourceState) (was is : Bool) (j : Journal) (a : Answer) → Tells old middle held
         → replays.IsTold Follows Stopped (along before after old middle t was is) journal.events (sight (rest_of (told_by start before)) was) (sight (rest_of (told_by t after)) is) j (unexpected a)
-        → SourceFollows start t before after → (how : LiveEnd) → EndsCut (run_line c (line.Unexpected t.line)) how middle new → reaches before after old new t was is how
-    unexpected_reached None after old middle new t was is j a tells w f how e = tt
-    unexpected_reached (Some left) after old middle new t was is j a tells w f how e =
+        → SourceFollows start t before after → (how : LiveEnd) → EndsCut (held ++ run_line c (line.Unexpected t.line)) how middle new → reaches before after old new t was is how
+    unexpected_reached None after old middle new held t was is j a tells w f how e = tt
+    unexpected_reached (Some left) after old middle new held t was is j a tells w f how e =
         let cut = cut_by left after t w.lines j.events a w.ended f in
-        by cut how (subst (λ (n : ℕ). EndsCut (run_line c (line.Unexpected n)) how middle new) cut.line e)
+        by cut how (subst (λ (n : ℕ). EndsCut (held ++ run_line c (line.Unexpected n)) how middle new) cut.line e)
       where
         text_is : (cut : CutBy left after t w.lines) → EndGets c journal (results_behind c journal reading left) end.Unexpected (run_lines_text c w.lines ++ run_line c (line.Unexpected cut.result.line))
         text_is cut = record { lines = w.lines; given = cut.given; result = cut.result; run = cut.run; printed = refl }
 
-        by : (cut : CutBy left after t w.lines) (how : LiveEnd) → EndsCut (run_line c (line.Unexpected cut.result.line)) how middle new → Reaches c journal reading left after old new how
+        by : (cut : CutBy left after t w.lines) (how : LiveEnd) → EndsCut (held ++ run_line c (line.Unexpected cut.result.line)) how middle new → Reaches c journal reading left after old new how
         by cut end.Unexpected put = record {
           text = run_lines_text c w.lines ++ run_line c (line.Unexpected cut.result.line);
           gets = text_is cut;
-          added = adds_then old middle new (run_lines_text c w.lines) (run_line c (line.Unexpected cut.result.line)) (tells w.lines w.told) put;
+          added = all_out (run_lines_text c w.lines) held (run_line c (line.Unexpected cut.result.line)) old middle new (tells w.lines w.told) put;
         }
         by cut end.WriteFault put = record {
           call = of_unexpected (record { printed = w.lines; given = cut.given; result = cut.result; run = cut.run });
           read = cut.read;
-          middle = middle;
-          before = (tells w.lines w.told);
-          front = put;
+          front = front_out (run_lines_text c w.lines) held (run_line c (line.Unexpected cut.result.line)) old middle new (tells w.lines w.told) put;
           begins = λ other whole gets.
               subst (λ (x : List ℕ). AddsPrefix x old new)
               (one_end c journal (results_behind c journal reading left) end.Unexpected other (run_lines_text c w.lines ++ run_line c (line.Unexpected cut.result.line)) whole (text_is cut) gets).1
-              (prefix_then (run_lines_text c w.lines) (run_line c (line.Unexpected cut.result.line)) old middle new (tells w.lines w.told) put);
+              (front_out (run_lines_text c w.lines) held (run_line c (line.Unexpected cut.result.line)) old middle new (tells w.lines w.told) put);
         }
         by cut end.Done put = absurd put
         by cut end.Refused put = absurd put
@@ -254,10 +305,10 @@ module _ (c : Cluster) (journal : Journal) (reading : Reading) where
         by cut end.NoMemory put = absurd put
 
     -- the source failed
-    broken_reached : (left : List ℕ) (after old middle new : Option (List ℕ)) (t : SourceState) (was is : Bool) (j : Journal) → Tells old middle
+    broken_reached : (left : List ℕ) (after old middle new : Option (List ℕ)) (held : List ℕ) (t : SourceState) (was is : Bool) (j : Journal) → Tells old middle held → held ≡ []
         → replays.IsTold Follows Stopped (along (Some left) after old middle t was is) journal.events (sight (rest_of (told_by start (Some left))) was) (sight (rest_of (told_by t after)) is) j in_failure
         → HasBroken start t (Some left) after → new ≡ middle → Reaches c journal reading left after old new end.ReadFault
-    broken_reached left after old middle new t was is j tells w h same = on after refl h.told h.read.cut
+    broken_reached left after old middle new held t was is j tells none w h same = on after refl h.told h.read.cut
       where
         on : (o : Option (List ℕ)) → o ≡ after → Some (results_behind c journal reading left) ≡ option_map (λ rest. results_first h.given (coming_to t rest)) o
             → Some (raw_lines (reading.held ++ left)) ≡ option_map (λ rest. h.lines ++ raw_lines (t.lines.reading.held ++ rest)) o → IsBrokenOff c journal reading left after old new
@@ -310,7 +361,7 @@ module _ (c : Cluster) (journal : Journal) (reading : Reading) where
                     = ap (λ (x : Coming). answers_to_come x) all ∙ map-append answer_in h.given (coming_to t unread).results in
                     subst (λ (xs : List Answer). IsRunSoFar c journal.promotions false journal.events (Some xs) w.lines j.events (Some []))
                     (append_cancel_right said.answers (map answer_in h.given) behind (sym taken ∙ split)) said.run;
-                added = subst (λ (x : Option (List ℕ)). Adds old (run_lines_text c w.lines) x) (sym same) (tells w.lines w.told);
+                added = subst (λ (x : Option (List ℕ)). Adds old (run_lines_text c w.lines) x) (sym same) (none_left (run_lines_text c w.lines) held old middle (tells w.lines w.told) none);
               };
             }
 
@@ -333,41 +384,60 @@ module _ (c : Cluster) (journal : Journal) (reading : Reading) where
         by course.Ended false e = cc
 
     -- what is written where a line stops the reading
-    stopped_by : (left : List ℕ) (after old middle new : Option (List ℕ)) (printed : List RunLine) → Adds old (run_lines_text c printed) middle → (given : List ResultLine) (w : LineStop)
+    stopped_by : (left : List ℕ) (after old middle new : Option (List ℕ)) (held : List ℕ) (printed : List RunLine) → GoesOut (run_lines_text c printed) [] held old middle → (given : List ResultLine) (w : LineStop)
         → results_behind c journal reading left ≡ record { results = given; stop = Some w } → (results_behind c journal reading left).stop ≡ Some w
         → AsksForMore c journal (results_behind c journal reading left) printed → (lines : List (List (List ℕ))) → IsFront lines (raw_lines (reading.held ++ left))
         → said_by c start.lines lines ≡ record { results = given; stop = Some w } → NoneOrLastSays c start.lines lines → (bytes : List ℕ) → Some left ≡ option_map (λ (x : List ℕ). bytes ++ x) after
-        → AreNear start.lines lines bytes → (how : LiveEnd) → EndsLines (Some w) how middle new → is_last w ≡ true → Reaches c journal reading left after old new how
-    stopped_by left after old middle new printed added given (why.Refused n cause) all stop more lines first said ends bytes taken near end.Refused put last = record {
+        → AreNear start.lines lines bytes → (how : LiveEnd) → EndsLines held (Some w) how middle new → is_last w ≡ true → Reaches c journal reading left after old new how
+    stopped_by left after old middle new held printed added given (why.Refused n cause) all stop more lines first said ends bytes taken near end.Refused put last = record {
       text = run_lines_text c printed ++ line_refusal_text n cause;
       gets = record { lines = printed; line = n; cause = cause; stop = stop; run = more; printed = refl };
-      added = adds_then old middle new (run_lines_text c printed) (line_refusal_text n cause) added put;
+      added = all_out (run_lines_text c printed) held (line_refusal_text n cause) old middle new added put;
     }
-    stopped_by left after old middle new printed added given (why.Refused n cause) all stop more lines first said ends bytes taken near end.WriteFault put last = record {
+    stopped_by left after old middle new held printed added given (why.Refused n cause) all stop more lines first said ends bytes taken near end.WriteFault put last = record {
       call = of_refusal (record { printed = printed; line = n; cause = cause; stop = stop; run = more });
       read = inl (record { lines = lines; first = first; said = said ∙ sym all; ends = ends; bytes = bytes; taken = taken; near = near });
-      middle = middle;
-      before = added;
-      front = put;
+      front = front_out (run_lines_text c printed) held (line_refusal_text n cause) old middle new added put;
       begins = λ other whole gets.
           subst (λ (x : List ℕ). AddsPrefix x old new)
           (one_end c journal (results_behind c journal reading left) end.Refused other (run_lines_text c printed ++ line_refusal_text n cause) whole
           (record { lines = printed; line = n; cause = cause; stop = stop; run = more; printed = refl }) gets).1
-          (prefix_then (run_lines_text c printed) (line_refusal_text n cause) old middle new added put);
+          (front_out (run_lines_text c printed) held (line_refusal_text n cause) old middle new added put);
     }
-    stopped_by left after old middle new printed added given why.TooLarge all stop more lines first said ends bytes taken near end.TooLarge put last = record {
+    stopped_by left after old middle new held printed added given why.TooLarge all stop more lines first said ends bytes taken near end.TooLarge put last = record {
       text = run_lines_text c printed;
       gets = record { lines = printed; stop = stop; run = more; printed = refl };
-      added = subst (λ (x : Option (List ℕ)). Adds old (run_lines_text c printed) x) (sym put) added;
+      added = all_left (run_lines_text c printed) held old middle new added put;
     }
-    stopped_by left after old middle new printed added given why.ReadFault all stop more lines first said ends bytes taken near how put last = let wrong : ⊥ = cc in absurd wrong
-    stopped_by left after old middle new printed added given (why.Refused n cause) all stop more lines first said ends bytes taken near how put last = absurd put
-    stopped_by left after old middle new printed added given why.TooLarge all stop more lines first said ends bytes taken near how put last = absurd put
+    stopped_by left after old middle new held printed added given why.TooLarge all stop more lines first said ends bytes taken near end.WriteFault put last =
+        let coming = results_behind c journal reading left in
+        let front = front_left (run_lines_text c printed) held old middle new added put in
+        record {
+          call = at_rest (record {
+            printed = printed;
+            at = more.run.last;
+            asked = coming;
+            behind = [];
+            split = sym (append-nil coming.results);
+            run = subst (λ (z : Option LineStop). Runs c journal.promotions (is_none z) (due 1 journal.events) (Some (answers_to_come coming)) printed more.run.last (Some [])) (sym stop)
+                more.run.steps;
+            rests = inl (asks_still c journal.promotions false (is_none coming.stop) more.run.last more.run.asking);
+            one_more = inr refl;
+          });
+          read = inl (record { lines = lines; first = first; said = said ∙ sym all; ends = ends; bytes = bytes; taken = taken; near = near });
+          front = subst (λ (x : List ℕ). AddsPrefix x old new) (sym (append-nil (run_lines_text c printed))) front;
+          begins = λ other whole gets.
+              subst (λ (x : List ℕ). AddsPrefix x old new)
+              (one_end c journal coming end.TooLarge other (run_lines_text c printed) whole (record { lines = printed; stop = stop; run = more; printed = refl }) gets).1 front;
+        }
+    stopped_by left after old middle new held printed added given why.ReadFault all stop more lines first said ends bytes taken near how put last = let wrong : ⊥ = cc in absurd wrong
+    stopped_by left after old middle new held printed added given (why.Refused n cause) all stop more lines first said ends bytes taken near how put last = absurd put
+    stopped_by left after old middle new held printed added given why.TooLarge all stop more lines first said ends bytes taken near how put last = absurd put
 
-    stopped_reached : (left : List ℕ) (after old middle new : Option (List ℕ)) (t : SourceState) (was is : Bool) (j : Journal) → Tells old middle
+    stopped_reached : (left : List ℕ) (after old middle new : Option (List ℕ)) (held : List ℕ) (t : SourceState) (was is : Bool) (j : Journal) → Tells old middle held
         → replays.IsTold Follows Stopped (along (Some left) after old middle t was is) journal.events (sight (rest_of (told_by start (Some left))) was) (sight (rest_of (told_by t after)) is) j in_failure
-        → HasStopped start t (Some left) after → (how : LiveEnd) → EndsLines (stop_of t) how middle new → Reaches c journal reading left after old new how
-    stopped_reached left after old middle new t was is j tells w h how e = on after refl h.told
+        → HasStopped start t (Some left) after → (how : LiveEnd) → EndsLines held (stop_of t) how middle new → Reaches c journal reading left after old new how
+    stopped_reached left after old middle new held t was is j tells w h how e = on after refl h.told
       where
         abbrev_none : Unit {0}
         abbrev_none = tt
@@ -388,43 +458,53 @@ module _ (c : Cluster) (journal : Journal) (reading : Reading) where
                   (subst (λ (z : Option LineStop). IsRunSoFar c journal.promotions (is_none z) journal.events (Some (answers_to_come (results_behind c journal reading left))) w.lines j.events
                   (rest_of (told_by t after))) stop w.ended.run);
             } in
-            stopped_by left after old middle new w.lines (tells w.lines w.told) h.given h.why all stop more h.by.lines h.by.first h.by.said (inr h.by.ends) h.by.bytes h.by.taken h.by.near how
-            (subst (λ (z : Option LineStop). EndsLines z how middle new) h.stop e) h.last
+            stopped_by left after old middle new held w.lines (tells w.lines w.told) h.given h.why all stop more h.by.lines h.by.first h.by.said (inr h.by.ends) h.by.bytes h.by.taken h.by.near how
+            (subst (λ (z : Option LineStop). EndsLines held z how middle new) h.stop e) h.last
 
-    failed_reached : (before after old middle new : Option (List ℕ)) (t : SourceState) (was is : Bool) (j : Journal) → Tells old middle
+    failed_reached : (before after old middle new : Option (List ℕ)) (held : List ℕ) (t : SourceState) (was is : Bool) (j : Journal) → Tells old middle held → (stop_of t ≡ Some why.ReadFault → held ≡ [])
         → replays.IsTold Follows Stopped (along before after old middle t was is) journal.events (sight (rest_of (told_by start before)) was) (sight (rest_of (told_by t after)) is) j in_failure
-        → HasBroken start t before after ⊎ HasStopped start t before after → (how : LiveEnd) → EndsLines (stop_of t) how middle new → reaches before after old new t was is how
-    failed_reached None after old middle new t was is j tells w f how e = tt
-    failed_reached (Some left) after old middle new t was is j tells w (inl h) how e =
-        by how (subst (λ (z : Option LineStop). EndsLines z how middle new) h.why e)
+        → HasBroken start t before after ⊎ HasStopped start t before after → (how : LiveEnd) → EndsLines held (stop_of t) how middle new → reaches before after old new t was is how
+    failed_reached None after old middle new held t was is j tells quiet w f how e = tt
+    failed_reached (Some left) after old middle new held t was is j tells quiet w (inl h) how e =
+        by how (subst (λ (z : Option LineStop). EndsLines held z how middle new) h.why e)
       where
-        by : (k : LiveEnd) → EndsLines (Some why.ReadFault) k middle new → Reaches c journal reading left after old new k
-        by end.ReadFault same = broken_reached left after old middle new t was is j tells w h same
+        by : (k : LiveEnd) → EndsLines held (Some why.ReadFault) k middle new → Reaches c journal reading left after old new k
+        by end.ReadFault same = broken_reached left after old middle new held t was is j tells (quiet h.why) w h same
         by end.Done put = absurd put
         by end.Unexpected put = absurd put
         by end.Refused put = absurd put
         by end.TooLarge put = absurd put
         by end.WriteFault put = absurd put
         by end.NoMemory put = absurd put
-    failed_reached (Some left) after old middle new t was is j tells w (inr h) how e = stopped_reached left after old middle new t was is j tells w h how e
+    failed_reached (Some left) after old middle new held t was is j tells quiet w (inr h) how e = stopped_reached left after old middle new held t was is j tells w h how e
 
     -- the writer stopped the run
     cut_off_reached : (before after old new : Option (List ℕ)) (t : SourceState) (was is : Bool) (j : Journal)
-        → ((lines : List RunLine) (at : RunLine) → Stopped lines at → WritesUpTo c old new lines at)
+        → ((lines : List RunLine) (at : Option RunLine) → Stopped lines at → AddsPrefix (run_lines_text c (with_last lines at)) old new)
         → replays.IsStopped Follows Stopped (along before after old new t was is) journal.events (sight (rest_of (told_by start before)) was) (sight (rest_of (told_by t after)) is) j
+        ⊎ replays.IsStoppedAsking Follows Stopped (along before after old new t was is) journal.events (sight (rest_of (told_by start before)) was) (sight (rest_of (told_by t after)) is) j
         → SourceFollows start t before after → reaches before after old new t was is end.WriteFault
     cut_off_reached None after old new t was is j stops w f = tt
-    cut_off_reached (Some left) after old new t was is j stops w f =
+    cut_off_reached (Some left) after old new t was is j stops (inr w) f =
+        rest_cut left after old new t f w.lines w.run.last w.run.steps (inl w.run.asking) (stops w.lines None w.told)
+    cut_off_reached (Some left) after old new t was is j stops (inl w) f =
         let g = given_by left after t f in
         let coming = results_behind c journal reading left in
         let run = subst (λ (x : Option (List Answer)). IsStoppedRun c journal.promotions (is_none coming.stop) journal.events (Some (answers_to_come coming)) w.lines w.call w.closing j.events x) g.rest w.run in
         let on = runs_more c journal.promotions (is_none coming.stop) (due 1 journal.events) run.before run.next (Some (answers_to_come coming)) run.middle (Some (map answer_in g.behind)) w.lines w.call
         run.steps run.stopped in
-        let text = stopped_text c old new w.lines w.call w.told.before w.told.at w.told.behind w.told.parts (stops (w.lines ++ w.told.before) w.told.at w.told.stopped) in
+        let told : w.lines ++ w.call ≡ ((w.lines ++ w.told.before) ++ w.told.at ∷ []) ++ w.told.behind
+        = ap (λ (ls : List RunLine). w.lines ++ ls) w.told.parts
+        ∙ (sym (append_assoc w.lines w.told.before (w.told.at ∷ w.told.behind)) ∙ sym (append_assoc (w.lines ++ w.told.before) (w.told.at ∷ []) w.told.behind)) in
+        let front : AddsPrefix (run_lines_text c (w.lines ++ w.call)) old new
+        = subst (λ (x : List ℕ). AddsPrefix x old new)
+        (sym (ap (run_lines_text c) told ∙ flat_map-append (run_line c) ((w.lines ++ w.told.before) ++ w.told.at ∷ []) w.told.behind))
+        (prefix_first (run_lines_text c ((w.lines ++ w.told.before) ++ w.told.at ∷ [])) (run_lines_text c w.told.behind) old new
+        (stops (w.lines ++ w.told.before) (Some w.told.at) w.told.stopped)) in
         record {
           call = in_run (record {
             printed = w.lines;
-            written = w.call;
+            told = w.call;
             closing = w.closing;
             journal_now = j.events;
             given = g.given;
@@ -433,46 +513,79 @@ module _ (c : Cluster) (journal : Journal) (reading : Reading) where
             run = run;
           });
           read = g.read;
-          middle = text.middle;
-          before = text.told;
-          front = text.front;
+          front = subst (λ (x : List ℕ). AddsPrefix x old new) (flat_map-append (run_line c) w.lines w.call) front;
           begins = λ other whole gets.
               front_prefix (run_lines_text c (w.lines ++ w.call)) whole old new
-              (begins_due c journal coming run.next (Some (map answer_in g.behind)) (w.lines ++ w.call) other whole on gets)
-              (subst (λ (x : List ℕ). AddsPrefix x old new) (sym (flat_map-append (run_line c) w.lines w.call))
-              (prefix_then (run_lines_text c w.lines) (run_lines_text c w.call) old text.middle new text.told text.front));
+              (begins_due c journal coming run.next (Some (map answer_in g.behind)) (w.lines ++ w.call) other whole on gets) front;
         }
 
     -- memory ran out
-    between_reached : (before after old new : Option (List ℕ)) (t : SourceState) (was is : Bool) → Tells old new
-        → replays.IsBetweenTwo Follows Stopped (along before after old new t was is) journal.events (sight (rest_of (told_by start before)) was) (sight (rest_of (told_by t after)) is)
-        → reaches before after old new t was is end.NoMemory
-    between_reached None after old new t was is tells w = tt
-    between_reached (Some left) after old new t was is tells w = record {
-      printed = w.lines;
-      at = w.at;
-      behind = rest_of (told_by t after);
-      run = w.run;
-      between = w.between;
-      ends = ends_between c journal.promotions (is_none (results_behind c journal reading left).stop) journal.events w.at (Some (answers_to_come (results_behind c journal reading left)))
-          (rest_of (told_by t after)) w.lines w.run w.between;
-      added = (tells w.lines w.told);
-      begins = λ other whole gets.
-          front_prefix (run_lines_text c w.lines) whole old new
-          (begins_due c journal (results_behind c journal reading left) w.at (rest_of (told_by t after)) w.lines other whole w.run gets)
-          (whole_prefix (run_lines_text c w.lines) old new (tells w.lines w.told));
-    }
+    between_reached : (before after old middle new : Option (List ℕ)) (held : List ℕ) (t : SourceState) (was is : Bool) → Tells old middle held
+        → replays.IsBetweenTwo Follows Stopped (along before after old middle t was is) journal.events (sight (rest_of (told_by start before)) was) (sight (rest_of (told_by t after)) is)
+        → SourceFollows start t before after → (how : LiveEnd) → EndsWithoutMemory held how middle new → reaches before after old new t was is how
+    between_reached None after old middle new held t was is tells w f how e = tt
+    between_reached (Some left) after old middle new held t was is tells w f how e = by how e
+      where
+        by : (k : LiveEnd) → EndsWithoutMemory held k middle new → Reaches c journal reading left after old new k
+        by end.NoMemory put =
+            let added = all_left (run_lines_text c w.lines) held old middle new (tells w.lines w.told) put in
+            record {
+              printed = w.lines;
+              at = w.at;
+              behind = rest_of (told_by t after);
+              run = w.run;
+              between = w.between;
+              ends = ends_between c journal.promotions (is_none (results_behind c journal reading left).stop) journal.events w.at (Some (answers_to_come (results_behind c journal reading left)))
+                  (rest_of (told_by t after)) w.lines w.run w.between;
+              added = added;
+              begins = λ other whole gets.
+                  front_prefix (run_lines_text c w.lines) whole old new
+                  (begins_due c journal (results_behind c journal reading left) w.at (rest_of (told_by t after)) w.lines other whole w.run gets)
+                  (whole_prefix (run_lines_text c w.lines) old new added);
+            }
+        by end.WriteFault put =
+            rest_cut left after old new t f w.lines w.at w.run (inr w.between) (front_left (run_lines_text c w.lines) held old middle new (tells w.lines w.told) put)
+        by end.Done put = absurd put
+        by end.Unexpected put = absurd put
+        by end.Refused put = absurd put
+        by end.TooLarge put = absurd put
+        by end.ReadFault put = absurd put
 
-    -- memory is said to be out where so many transitions were made as are never made
-    most_never : (before after old new : Option (List ℕ)) (t : SourceState) (was is : Bool) (j : Journal)
+    -- so many transitions are never made
+    most_never : (before after old new : Option (List ℕ)) (t : SourceState) (was is : Bool) (j : Journal) (how : LiveEnd)
         → replays.IsTold Follows Stopped (along before after old new t was is) journal.events (sight (rest_of (told_by start before)) was) (sight (rest_of (told_by t after)) is) j (at_most 10001)
-        → reaches before after old new t was is end.NoMemory
-    most_never None after old new t was is j w = tt
-    most_never (Some left) after old new t was is j w =
+        → reaches before after old new t was is how
+    most_never None after old new t was is j how w = tt
+    most_never (Some left) after old new t was is j how w =
         let coming = results_behind c journal reading left in
         let count = few_results c start.lines (raw_lines (reading.held ++ left)) (omega arith) in
         let size : length (answers_to_come coming) ≡ length coming.results = answers_size coming.results in
         never_most c journal.promotions (is_none coming.stop) journal.events (Some (answers_to_come coming)) (rest_of (told_by t after)) w.lines tt 10001 j.events (omega (arith, count, size)) w.ended
+
+-- there is no memory for the first line: nothing was written
+nothing_added : (text : Option (List ℕ)) → Adds text [] text
+nothing_added None = refl
+nothing_added (Some t) = ap Some (sym (append-nil t))
+
+pub nothing_reached : (c : Cluster) (journal : Journal) (reading : Reading) (before after text : Option (List ℕ))
+    → IfSome before (λ left. Reaches c journal reading left after text text end.NoMemory)
+nothing_reached c journal reading None after text = tt
+nothing_reached c journal reading (Some left) after text =
+    let coming = results_behind c journal reading left in
+    let runs : Runs c journal.promotions (is_none coming.stop) (due 1 journal.events) (Some (answers_to_come coming)) [] (due 1 journal.events) (Some (answers_to_come coming))
+    = here (due 1 journal.events) (Some (answers_to_come coming)) in
+    record {
+      printed = [];
+      at = due 1 journal.events;
+      behind = Some (answers_to_come coming);
+      run = runs;
+      between = tt;
+      ends = at_first;
+      added = nothing_added text;
+      begins = λ other whole gets.
+          front_prefix [] whole text text (begins_due c journal coming (due 1 journal.events) (Some (answers_to_come coming)) [] other whole runs gets)
+          (whole_prefix [] text text (nothing_added text));
+    }
 
 -- which end a run gets, where no count rose and memory sufficed
 module _ (c : Cluster) (journal : Journal) (reading : Reading) (after old new : Option (List ℕ)) (Read Wrote : Type 0) where
@@ -499,41 +612,43 @@ module _ (c : Cluster) (journal : Journal) (reading : Reading) (after old new : 
 
 -- the same, of a source that stands at the beginning
 module _ (c : Cluster) (journal : Journal) (reading : Reading) (s t : SourceState) (d : Cluster) (fresh : s ≡ starting c (moment_of journal.events) reading) (names : d ≡ c)
-    (before after old middle new : Option (List ℕ)) (was is : Bool) (j : Journal) (Follows : List RunLine → Type 0) (Stopped : List RunLine → RunLine → Type 0) where
+    (before after old middle new : Option (List ℕ)) (held : List ℕ) (was is : Bool) (j : Journal) (Follows : List RunLine → Type 0) (Stopped : List RunLine → Option RunLine → Type 0) where
   abbrev pub from : replays.Setting
   from = setting c journal.promotions (whole_of (told_by s before)) true
 
-  abbrev pub TellsBy : Option (List ℕ) → Type 0
-  TellsBy now = (lines : List RunLine) → Follows lines → WritesLines d old now lines
+  abbrev pub TellsBy : Type 0
+  TellsBy = (lines : List RunLine) → Follows lines → GoesOut (run_lines_text d lines) [] held old middle
 
-  tells_so : (now : Option (List ℕ)) → TellsBy now → (lines : List RunLine) → Follows lines → WritesLines c old now lines
-  tells_so now tells lines told = subst (λ (x : Cluster). WritesLines x old now lines) names (tells lines told)
+  tells_so : TellsBy → (lines : List RunLine) → Follows lines → GoesOut (run_lines_text c lines) [] held old middle
+  tells_so tells lines told = subst (λ (x : Cluster). GoesOut (run_lines_text x lines) [] held old middle) names (tells lines told)
 
-  pub done_from : TellsBy new → replays.IsTold Follows Stopped from journal.events (sight (rest_of (told_by s before)) was) (sight (rest_of (told_by t after)) is) j with_all
-      → IfSome before (λ left. Reaches c journal reading left after old new end.Done)
-  done_from tells w = done_reached c journal reading Follows Stopped before after old new t was is j (tells_so new tells) (rw fresh at w)
+  pub done_from : TellsBy → replays.IsTold Follows Stopped from journal.events (sight (rest_of (told_by s before)) was) (sight (rest_of (told_by t after)) is) j with_all → SourceFollows s t before after
+      → (how : LiveEnd) → EndsDone held how middle new → IfSome before (λ left. Reaches c journal reading left after old new how)
+  done_from tells w f how e = done_reached c journal reading Follows Stopped before after old middle new held t was is j (tells_so tells) (rw fresh at w) (rw fresh at f) how e
 
-  pub unexpected_from : (a : Answer) → TellsBy middle → replays.IsTold Follows Stopped from journal.events (sight (rest_of (told_by s before)) was) (sight (rest_of (told_by t after)) is) j (unexpected a) → SourceFollows s t before after
-      → (how : LiveEnd) → EndsCut (run_line d (line.Unexpected t.line)) how middle new → IfSome before (λ left. Reaches c journal reading left after old new how)
-  unexpected_from a tells w f how e = unexpected_reached c journal reading Follows Stopped before after old middle new t was is j a (tells_so middle tells) (rw fresh at w) (rw fresh at f) how (subst (λ (x : Cluster). EndsCut (run_line x (line.Unexpected t.line)) how middle new) names e)
+  pub unexpected_from : (a : Answer) → TellsBy → replays.IsTold Follows Stopped from journal.events (sight (rest_of (told_by s before)) was) (sight (rest_of (told_by t after)) is) j (unexpected a) → SourceFollows s t before after
+      → (how : LiveEnd) → EndsCut (held ++ run_line d (line.Unexpected t.line)) how middle new → IfSome before (λ left. Reaches c journal reading left after old new how)
+  unexpected_from a tells w f how e = unexpected_reached c journal reading Follows Stopped before after old middle new held t was is j a (tells_so tells) (rw fresh at w) (rw fresh at f) how (subst (λ (x : Cluster). EndsCut (held ++ run_line x (line.Unexpected t.line)) how middle new) names e)
 
-  pub failed_from : TellsBy middle → replays.IsTold Follows Stopped from journal.events (sight (rest_of (told_by s before)) was) (sight (rest_of (told_by t after)) is) j in_failure
-      → HasBroken s t before after ⊎ HasStopped s t before after → (how : LiveEnd) → EndsLines (stop_of t) how middle new → IfSome before (λ left. Reaches c journal reading left after old new how)
-  failed_from tells w f how e = failed_reached c journal reading Follows Stopped before after old middle new t was is j (tells_so middle tells) (rw fresh at w) (rw fresh at f) how e
+  pub failed_from : TellsBy → (stop_of t ≡ Some why.ReadFault → held ≡ []) → replays.IsTold Follows Stopped from journal.events (sight (rest_of (told_by s before)) was) (sight (rest_of (told_by t after)) is) j in_failure
+      → HasBroken s t before after ⊎ HasStopped s t before after → (how : LiveEnd) → EndsLines held (stop_of t) how middle new → IfSome before (λ left. Reaches c journal reading left after old new how)
+  failed_from tells quiet w f how e = failed_reached c journal reading Follows Stopped before after old middle new held t was is j (tells_so tells) quiet (rw fresh at w) (rw fresh at f) how e
 
-  pub cut_off_from : ((lines : List RunLine) (at : RunLine) → Stopped lines at → WritesUpTo d old new lines at) → replays.IsStopped Follows Stopped from journal.events (sight (rest_of (told_by s before)) was) (sight (rest_of (told_by t after)) is) j → SourceFollows s t before after
+  pub cut_off_from : ((lines : List RunLine) (at : Option RunLine) → Stopped lines at → AddsPrefix (run_lines_text d (with_last lines at)) old new)
+      → replays.IsStopped Follows Stopped from journal.events (sight (rest_of (told_by s before)) was) (sight (rest_of (told_by t after)) is) j
+      ⊎ replays.IsStoppedAsking Follows Stopped from journal.events (sight (rest_of (told_by s before)) was) (sight (rest_of (told_by t after)) is) j → SourceFollows s t before after
       → IfSome before (λ left. Reaches c journal reading left after old new end.WriteFault)
   cut_off_from stops w f =
       cut_off_reached c journal reading Follows Stopped before after old new t was is j
-      (λ lines at told. subst (λ (x : Cluster). WritesUpTo x old new lines at) names (stops lines at told)) (rw fresh at w) (rw fresh at f)
+      (λ lines at told. subst (λ (x : Cluster). AddsPrefix (run_lines_text x (with_last lines at)) old new) names (stops lines at told)) (rw fresh at w) (rw fresh at f)
 
-  pub between_from : TellsBy new → replays.IsBetweenTwo Follows Stopped from journal.events (sight (rest_of (told_by s before)) was) (sight (rest_of (told_by t after)) is)
-      → IfSome before (λ left. Reaches c journal reading left after old new end.NoMemory)
-  between_from tells w = between_reached c journal reading Follows Stopped before after old new t was is (tells_so new tells) (rw fresh at w)
+  pub between_from : TellsBy → replays.IsBetweenTwo Follows Stopped from journal.events (sight (rest_of (told_by s before)) was) (sight (rest_of (told_by t after)) is) → SourceFollows s t before after
+      → (how : LiveEnd) → EndsWithoutMemory held how middle new → IfSome before (λ left. Reaches c journal reading left after old new how)
+  between_from tells w f how e = between_reached c journal reading Follows Stopped before after old middle new held t was is (tells_so tells) (rw fresh at w) (rw fresh at f) how e
 
-  pub most_from : replays.IsTold Follows Stopped from journal.events (sight (rest_of (told_by s before)) was) (sight (rest_of (told_by t after)) is) j (at_most 10001)
-      → IfSome before (λ left. Reaches c journal reading left after old new end.NoMemory)
-  most_from w = most_never c journal reading Follows Stopped before after old new t was is j (rw fresh at w)
+  pub most_from : (how : LiveEnd) → replays.IsTold Follows Stopped from journal.events (sight (rest_of (told_by s before)) was) (sight (rest_of (told_by t after)) is) j (at_most 10001)
+      → IfSome before (λ left. Reaches c journal reading left after old new how)
+  most_from how w = most_never c journal reading Follows Stopped before after old new t was is j how (rw fresh at w)
 
 pub failed_kind : (exact : Bool) (v u : View) → HasQuestionFailed exact v u → HasBroken v.standing u.standing v.left u.left ⊎ HasStopped v.standing u.standing v.left u.left
 failed_kind exact v u (by_source h failed) = inl h

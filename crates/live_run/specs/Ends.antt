@@ -13,7 +13,7 @@ use Rattle.live_run.specs.Coming.{Coming}
 use Rattle.live_run.specs.Courses.{answers_to_come}
 use Rattle.live_run.specs.declared.line_stop.LineCause.{LineCause}
 use Rattle.live_run.specs.declared.line_stop.LineStop.TheVariants as why
-use Rattle.live_run.specs.Writing.{line_refusal_text}
+use Rattle.live_run.specs.LineCauses.{line_refusal_text}
 use Rattle.input_reading.specs.declared.results.result_lines.ResultLine.{ResultLine}
 use Rattle.live_run.specs.declared.live_end.LiveEnd.{LiveEnd}
 use Rattle.live_run.specs.declared.live_end.LiveEnd.TheVariants.{Done, Unexpected, Refused, TooLarge}

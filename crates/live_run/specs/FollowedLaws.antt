@@ -1,6 +1,5 @@
 -- A source of answers that are read from lines has come from itself, and from what it came from on the way; and so has a writer of lines.
-use Rattle.std.proofs.Common.{◌≡◌, ◌≢◌, ℕ, Bool, true, false, Option, Some, None, List, [], ◌∷◌, ◌++◌, option_map, append-nil, refl, ap, sym, subst, ◌∙◌}
-use Rattle.std.specs.List.{flat_map}
+use Rattle.std.proofs.Common.{◌≡◌, ◌≢◌, ℕ, Bool, true, false, Option, Some, None, List, [], ◌∷◌, ◌++◌, option_map, append-nil, append_assoc, refl, ap, sym, subst, ◌∙◌}
 use Rattle.std.proofs.lemmas.Grind.{flat_map-append}
 use Rattle.cluster_io.specs.Streams.{Adds, AddsPrefix}
 use Rattle.cluster_io.proofs.Pieces.{Adds-then}
@@ -14,7 +13,9 @@ use Rattle.input_reading.specs.declared.results.result_lines.ResultLine.{ResultL
 use Rattle.live_run.specs.Coming.{Coming}
 use Rattle.live_run.specs.Courses.{SourceState, has_course_ended, is_reading, coming_to}
 use Rattle.live_run.specs.Followed.{NoneOrLastSays, SourceFollows, HasAnswered, HasBroken, HasQuestionFailed, HasCounted, HasFollowed, HasRead, HasSaid, HasStopped, IsStoppedBy, RestsBehind, View, answers, by_line, by_source, last_line, results_first, stays}
-use Rattle.live_run.specs.Writing.{HasFailedAt, HasPut, HasWrittenLines, WritesLines}
+use Rattle.live_run.specs.Ends.{run_lines_text}
+use Rattle.live_run.specs.Writing.{GoesOut, HasFailedBehind, HasPut, HasWrittenLines, WriterView, with_last}
+use Rattle.live_run.specs.Inner.Fronts.{prefix_then}
 use Rattle.live_run.specs.declared.course.Course.{Course}
 use Rattle.live_run.specs.declared.course.Course.TheVariants as course
 use Rattle.live_run.specs.Inner.ReadLaws.{ends_then, near_then, read_then, stopped_then, told_joined}
@@ -156,44 +157,64 @@ module _ (exact : Bool) where
   said_behind a b d next.Failed f s = failed_later a b d f.follows f.counts s
 
 -- what a writer has written
-written_then : (exact : Bool) (failed : Type 0) (f g h l m n : ℕ) → HasPut exact ⊥ f g l m → HasPut exact failed g h m n → HasPut exact failed f h l n
-written_then exact failed f g h l m n a b = record {
+nothing_added : (text : Option (List ℕ)) → Adds text [] text
+nothing_added None = refl
+nothing_added (Some t) = ap Some (sym (append-nil t))
+
+-- one text is added, and then another
+module _ (first rest held held_then : List ℕ) (before middle : Option (List ℕ)) (a : GoesOut first held held_then before middle) where
+  behind_first : held ++ (first ++ rest) ≡ a.out ++ (held_then ++ rest)
+  behind_first =
+      sym (append_assoc held first rest) ∙ (ap (λ (t : List ℕ). t ++ rest) a.parts ∙ append_assoc a.out held_then rest)
+
+  pub goes_then : (held_now : List ℕ) (after : Option (List ℕ)) → GoesOut rest held_then held_now middle after → GoesOut (first ++ rest) held held_now before after
+  goes_then held_now after b = record {
+    out = a.out ++ b.out;
+    parts = behind_first ∙ (ap (λ (t : List ℕ). a.out ++ t) b.parts ∙ sym (append_assoc a.out b.out held_now));
+    written = Adds-then before middle after a.out b.out a.written b.written;
+  }
+
+  pub fails_then : (after : Option (List ℕ)) → AddsPrefix (held_then ++ rest) middle after → AddsPrefix (held ++ (first ++ rest)) before after
+  fails_then after p = subst (λ (t : List ℕ). AddsPrefix t before after) (sym behind_first) (prefix_then a.out (held_then ++ rest) before middle after a.written p)
+
+put_then : (exact : Bool) (failed : Type 0) (f g h l m n : ℕ) → HasPut exact ⊥ f g l m → HasPut exact failed g h m n → HasPut exact failed f h l n
+put_then exact failed f g h l m n a b = record {
   bears = Bears-then exact ⊥ failed f g h (λ none. none) a.bears b.bears;
   same_sink = b.same_sink ∙ a.same_sink;
 }
 
-adds_no_line : (text : Option (List ℕ)) → Adds text [] text
-adds_no_line None = refl
-adds_no_line (Some t) = ap Some (sym (append-nil t))
-
-pub lines_itself : (exact : Bool) (c : Cluster) (faults loan : ℕ) (text : Option (List ℕ)) → HasWrittenLines exact c c faults faults loan loan text text []
-lines_itself exact c faults loan text = record {
-  cluster_stays = refl;
-  put = record { bears = Bears-none exact ⊥ faults (λ none. none); same_sink = refl };
-  text = adds_no_line text;
+pub lines_itself : (exact : Bool) (v : WriterView) → HasWrittenLines exact v v []
+lines_itself exact v = record {
+  names_stay = refl;
+  put = record { bears = Bears-none exact ⊥ v.faults (λ none. none); same_sink = refl };
+  text = record { out = []; parts = append-nil v.held; written = nothing_added v.written };
 }
 
-module _ (exact : Bool) (c d e : Cluster) (f g h l m n : ℕ) (before middle after : Option (List ℕ)) (lines more : List RunLine) (a : HasWrittenLines exact c d f g l m before middle lines) where
-  lines_added : (last : Option (List ℕ)) → WritesLines d middle last more → WritesLines c before last (lines ++ more)
-  lines_added last b =
-      subst (λ (t : List ℕ). Adds before t last) (sym (flat_map-append (run_line c) lines more))
-      (Adds-then before middle last (flat_map (run_line c) lines) (flat_map (run_line c) more) a.text
-      (subst (λ (x : Cluster). WritesLines x middle last more) a.cluster_stays b))
+module _ (exact : Bool) (first middle last : WriterView) (lines more : List RunLine) (a : HasWrittenLines exact first middle lines) where
+  text_joined : run_lines_text first.names (lines ++ more) ≡ run_lines_text first.names lines ++ run_lines_text middle.names more
+  text_joined =
+      flat_map-append (run_line first.names) lines more ∙ ap (λ (c : Cluster). run_lines_text first.names lines ++ run_lines_text c more) (sym a.names_stay)
 
-  pub lines_then : HasWrittenLines exact d e g h m n middle after more → HasWrittenLines exact c e f h l n before after (lines ++ more)
+  pub lines_then : HasWrittenLines exact middle last more → HasWrittenLines exact first last (lines ++ more)
   lines_then b = record {
-    cluster_stays = b.cluster_stays ∙ a.cluster_stays;
-    put = written_then exact ⊥ f g h l m n a.put b.put;
-    text = lines_added after b.text;
+    names_stay = b.names_stay ∙ a.names_stay;
+    put = put_then exact ⊥ first.faults middle.faults last.faults first.loan middle.loan last.loan a.put b.put;
+    text = subst (λ (t : List ℕ). GoesOut t first.held last.held first.written last.written) (sym text_joined)
+        (goes_then (run_lines_text first.names lines) (run_lines_text middle.names more) first.held middle.held first.written middle.written a.text last.held last.written b.text);
   }
 
-  pub lines_later : (at : RunLine) → HasFailedAt exact d e g h m n middle after more at → HasFailedAt exact c e f h l n before after (lines ++ more) at
-  lines_later at b = record {
-    cluster_stays = b.cluster_stays ∙ a.cluster_stays;
-    put = written_then exact (Unit {0}) f g h l m n a.put b.put;
-    text = record {
-      middle = b.text.middle;
-      told = lines_added b.text.middle b.text.told;
-      front = subst (λ (x : Cluster). AddsPrefix (run_line x at) b.text.middle after) a.cluster_stays b.text.front;
-    };
+  failed_later_by : HasFailedBehind exact middle last more → HasFailedBehind exact first last (lines ++ more)
+  failed_later_by b = record {
+    names_stay = b.names_stay ∙ a.names_stay;
+    put = put_then exact (Unit {0}) first.faults middle.faults last.faults first.loan middle.loan last.loan a.put b.put;
+    text = subst (λ (t : List ℕ). AddsPrefix (first.held ++ t) first.written last.written) (sym text_joined)
+        (fails_then (run_lines_text first.names lines) (run_lines_text middle.names more) first.held middle.held first.written middle.written a.text last.written b.text);
   }
+
+-- wherever a writer stops, it does so behind what came before
+pub lines_later : (exact : Bool) (first middle last : WriterView) (lines more : List RunLine) (at : Option RunLine) → HasWrittenLines exact first middle lines
+    → HasFailedBehind exact middle last (with_last more at) → HasFailedBehind exact first last (with_last (lines ++ more) at)
+lines_later exact first middle last lines more None a b = failed_later_by exact first middle last lines more a b
+lines_later exact first middle last lines more (Some at) a b =
+    subst (λ (ls : List RunLine). HasFailedBehind exact first last ls) (sym (append_assoc lines more (at ∷ [])))
+    (failed_later_by exact first middle last lines (more ++ at ∷ []) a b)

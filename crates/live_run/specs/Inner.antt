@@ -4,3 +4,5 @@ pub mod HeadSteps
 pub mod ComingSteps
 pub mod ReadSteps
 pub mod RunEnds
+pub mod Fronts
+pub mod PlainLines

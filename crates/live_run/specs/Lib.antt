@@ -8,6 +8,7 @@ pub mod Courses
 pub mod Followed
 pub mod FollowedLaws
 pub mod LineSources
+pub mod AtHand
 pub mod LineCauses
 pub mod Writing
 pub mod LineWriters

@@ -10,7 +10,7 @@ use Rattle.cluster_types.specs.declared.journal.Journal.{Journal}
 use Rattle.cluster_types.specs.declared.run.RunLine.{RunLine}
 use Rattle.cluster_types.specs.declared.run.RunLine.TheVariants as line
 use Rattle.cluster_types.specs.Journals.{moment_of}
-use Rattle.cluster_types.specs.Runs.{RunStanding, due, Runs, IsBetween, IsRunSoFar, IsStoppedRun}
+use Rattle.cluster_types.specs.Runs.{RunStanding, due, Runs, IsAsking, IsBetween, IsRunSoFar, IsStoppedRun}
 use Rattle.cluster_types.specs.Texts.{run_line}
 use Rattle.crm_lex.specs.RawLines.{raw_lines}
 use Rattle.live_run.specs.Coming.{Coming, Lines, coming_of}
@@ -20,7 +20,7 @@ use Rattle.live_run.specs.declared.line_stop.LineCause.{LineCause}
 use Rattle.live_run.specs.declared.line_stop.LineStop.TheVariants as why
 use Rattle.input_reading.specs.declared.results.result_lines.ResultLine.{ResultLine}
 use Rattle.run_safety.specs.Followed.{EndsBetween, IsFront}
-use Rattle.live_run.specs.Writing.{line_refusal_text}
+use Rattle.live_run.specs.LineCauses.{line_refusal_text}
 use Rattle.live_run.specs.Ends.{AsksForMore, EndGets, CutRunGives, run_lines_text}
 use Rattle.live_run.specs.declared.live_end.LiveEnd.{LiveEnd}
 use Rattle.live_run.specs.declared.live_end.LiveEnd.TheVariants as end
@@ -68,17 +68,17 @@ module _ (c : Cluster) (journal : Journal) (reading : Reading) (left : List ℕ)
     pub unstopped : asked.stop ≡ None
     pub none_left : after ≡ Some []
 
-  -- a call of the writer amid the run, behind these lines: it writes those of one step. The line that ends the transition may come right
-  -- behind them, and this call doesn't write it. The run has taken these answers by then
+  -- a call of the writer amid the run, behind these lines: it is told those of one step. The line that ends the transition may come right
+  -- behind them, and this call isn't told it. The run has taken these answers by then
   pub record CallInRun : Type 0 where
     pub printed : List RunLine
-    pub written : List RunLine
+    pub told : List RunLine
     pub closing : List RunLine
     pub journal_now : List Event
     pub given : List ResultLine
     pub behind : List ResultLine
     pub split : results.results ≡ given ++ behind
-    pub run : IsStoppedRun c journal.promotions (is_none results.stop) journal.events (Some (answers_to_come results)) printed written closing journal_now
+    pub run : IsStoppedRun c journal.promotions (is_none results.stop) journal.events (Some (answers_to_come results)) printed told closing journal_now
         (Some (map (λ (r : ResultLine). r.answer) behind))
 
   -- the call that writes `unexpected LINE` of the answer behind these, which doesn't apply
@@ -96,27 +96,44 @@ module _ (c : Cluster) (journal : Journal) (reading : Reading) (left : List ℕ)
     pub stop : results.stop ≡ Some (why.Refused line cause)
     pub run : AsksForMore c journal results printed
 
+  -- the call that writes what is held back where the run asks for an answer, or stands between two transitions. The run has taken answers by then. The
+  -- line that is refused, if one is, was asked for too, or none behind these
+  pub record CallAtRest : Type 0 where
+    pub printed : List RunLine
+    pub at : RunStanding
+    pub asked : Coming
+    pub behind : List ResultLine
+    pub split : results.results ≡ asked.results ++ behind
+    pub run : Runs c journal.promotions (is_none results.stop) (due 1 journal.events) (Some (answers_to_come results)) printed at
+        (Some (map (λ (r : ResultLine). r.answer) behind))
+    pub rests : IsAsking c journal.promotions (is_none results.stop) at ⊎ IsBetween c journal.promotions (is_none results.stop) at
+    pub one_more : (asked.stop ≡ None) ⊎ (asked ≡ results)
+
   -- one call of the writer
   pub data WriterCall : Type 0 where
     in_run : CallInRun → WriterCall
+    at_rest : CallAtRest → WriterCall
     of_unexpected : CallOfUnexpected → WriterCall
     of_refusal : CallOfRefusal → WriterCall
 
-  -- the lines that were written before it
+  -- the lines that were told before it
   abbrev pub lines_before_call : WriterCall → List RunLine
   lines_before_call (in_run call) = call.printed
+  lines_before_call (at_rest call) = call.printed
   lines_before_call (of_unexpected call) = call.printed
   lines_before_call (of_refusal call) = call.printed
 
   -- what was asked for by then
   abbrev pub asked_by_call : WriterCall → Coming
   asked_by_call (in_run call) = record { results = call.given; stop = None }
+  asked_by_call (at_rest call) = call.asked
   asked_by_call (of_unexpected call) = record { results = call.given ++ call.result ∷ []; stop = None }
   asked_by_call (of_refusal call) = results
 
-  -- what it writes
+  -- what it adds to these
   abbrev pub text_of_call : WriterCall → List ℕ
-  text_of_call (in_run call) = run_lines_text c call.written
+  text_of_call (in_run call) = run_lines_text c call.told
+  text_of_call (at_rest call) = []
   text_of_call (of_unexpected call) = run_line c (line.Unexpected call.result.line)
   text_of_call (of_refusal call) = line_refusal_text call.line call.cause
 
@@ -150,14 +167,12 @@ module _ (c : Cluster) (journal : Journal) (reading : Reading) (left : List ℕ)
       pub no_answer : GivesNoAnswer (reading.room - length (bytes_of whole.lines)) reading.longest whole.held
       pub ran : IsRunOverLines whole.lines
 
-    -- the sink failed in one call: all lines before it were written, and a front of what it writes. No line was asked for since. It is a front of the text that
-    -- is due
+    -- the sink failed in one call: a front was written of the lines before it and of what it adds to these. No line was asked for since. It is a front of the
+    -- text that is due
     pub record IsCutOff : Type 0 where
       pub call : WriterCall
       pub read : AskedFor (asked_by_call call) ⊎ AskedForAll (asked_by_call call)
-      pub middle : Option (List ℕ)
-      pub before : Adds old (run_lines_text c (lines_before_call call)) middle
-      pub front : AddsPrefix (text_of_call call) middle new
+      pub front : AddsPrefix (run_lines_text c (lines_before_call call) ++ text_of_call call) old new
       pub begins : (how : LiveEnd) (whole : List ℕ) → EndGets c journal results how whole → AddsPrefix whole old new
 
     -- memory ran out between two transitions: the lines up to there were written, none or ones that end with `complete K`, `aborted K` or an answer that came

@@ -1,16 +1,13 @@
--- What is written of some lines of a run (rule of this project).
-use Rattle.std.specs.Prelude.{◌≡◌, ℕ, Bool, Option, Result, Ok, Err, List, ◌++◌, codes, decimal}
-use Rattle.std.specs.List.{flat_map}
+-- What is written of some lines of a run, and what is held back (rule of this project).
+use Rattle.std.specs.Prelude.{◌≡◌, ℕ, Bool, Option, Some, None, Result, Ok, Err, List, [], ◌∷◌, ◌++◌}
 use Rattle.cluster_io.specs.Streams.{Adds, AddsPrefix, Bears}
 use Rattle.cluster_io.specs.declared.sink.WriteFault.{WriteFault}
 use Rattle.cluster_types.specs.declared.cluster.Cluster.{Cluster}
 use Rattle.cluster_types.specs.declared.run.RunLine.{RunLine}
-use Rattle.cluster_types.specs.Texts.{run_line}
 use Rattle.graph_exec.specs.Telling.{StopsAmong}
 use Rattle.graph_exec.specs.declared.transition.watcher.Heard.{Heard}
 use Rattle.graph_exec.specs.declared.transition.watcher.Heard.TheVariants as heard
-use Rattle.live_run.specs.LineCauses.{line_cause_name}
-use Rattle.live_run.specs.declared.line_stop.LineCause.{LineCause}
+use Rattle.live_run.specs.Ends.{run_lines_text}
 
 -- all of a text was written, or a front of it where the sink failed
 abbrev pub Puts : Result (Unit {0}) WriteFault → List ℕ → Option (List ℕ) → Option (List ℕ) → Type 0
@@ -22,43 +19,54 @@ abbrev pub heard_of : Result (Unit {0}) WriteFault → Heard
 heard_of (Ok done) = heard.Go
 heard_of (Err fault) = heard.Stop
 
--- `refused LINE CAUSE`
-abbrev pub line_refusal_text : ℕ → LineCause → List ℕ
-line_refusal_text line cause = codes "refused " ++ decimal line ++ codes " " ++ line_cause_name cause ++ codes "\n"
-
 -- a writer has the loan of its sink that it had
 abbrev pub IsSameSink : ℕ → ℕ → Type 0
 IsSameSink loan loan_now = loan_now ≡ loan
 
--- these lines of a run were written, by the names of a cluster
-abbrev pub WritesLines : Cluster → Option (List ℕ) → Option (List ℕ) → List RunLine → Type 0
-WritesLines c before after lines = Adds before (flat_map (run_line c) lines) after
+-- a text was added behind what was held back: of both a front was written, and the rest is held back now
+pub record GoesOut (text held held_now : List ℕ) (before after : Option (List ℕ)) : Type 0 where
+  pub out : List ℕ
+  pub parts : held ++ text ≡ out ++ held_now
+  pub written : Adds before out after
 
-module _ (c : Cluster) (before after : Option (List ℕ)) where
-  -- these were written, and of the next one a front
-  pub record WritesUpTo (lines : List RunLine) (at : RunLine) : Type 0 where
-    pub middle : Option (List ℕ)
-    pub told : WritesLines c before middle lines
-    pub front : AddsPrefix (run_line c at) middle after
+-- so it was, or the sink failed: then a front was written of what was held back and the text
+abbrev pub PutsBehind : Result (Unit {0}) WriteFault → List ℕ → List ℕ → List ℕ → Option (List ℕ) → Option (List ℕ) → Type 0
+PutsBehind (Ok done) text held held_now before after = GoesOut text held held_now before after
+PutsBehind (Err fault) text held held_now before after = AddsPrefix (held ++ text) before after
 
-  -- all of these were written, or those before one at which the sink failed
+module _ (c : Cluster) (held held_now : List ℕ) (before after : Option (List ℕ)) where
+  -- these lines were added, or some of them, behind which the sink failed
   abbrev pub PutsLines : Result (Unit {0}) WriteFault → List RunLine → Type 0
-  PutsLines (Ok done) lines = WritesLines c before after lines
-  PutsLines (Err fault) lines = StopsAmong WritesUpTo lines
+  PutsLines (Ok done) lines = GoesOut (run_lines_text c lines) held held_now before after
+  PutsLines (Err fault) lines = StopsAmong (λ (front : List RunLine) (at : RunLine). AddsPrefix (held ++ run_lines_text c (front ++ at ∷ [])) before after) lines
 
 -- what lines that were written have left of a sink's count of faults, by whether the last of them failed, and of its loan
 pub record HasPut (exact : Bool) (failed : Type 0) (faults faults_now loan loan_now : ℕ) : Type 0 where
   pub bears : Bears exact failed faults faults_now
   pub same_sink : IsSameSink loan loan_now
 
--- a writer has come on by some lines, or has stopped at one behind them
-module _ (exact : Bool) (c c_now : Cluster) (faults faults_now loan loan_now : ℕ) (before after : Option (List ℕ)) where
-  pub record HasWrittenLines (lines : List RunLine) : Type 0 where
-    pub cluster_stays : c_now ≡ c
-    pub put : HasPut exact ⊥ faults faults_now loan loan_now
-    pub text : WritesLines c before after lines
+-- a writer at a moment: by whose names it writes, what it holds back, and of its sink what is written, how often it has failed, and the name of its loan
+pub record WriterView : Type 0 where
+  pub names : Cluster
+  pub held : List ℕ
+  pub written : Option (List ℕ)
+  pub faults : ℕ
+  pub loan : ℕ
 
-  pub record HasFailedAt (lines : List RunLine) (at : RunLine) : Type 0 where
-    pub cluster_stays : c_now ≡ c
-    pub put : HasPut exact (Unit {0}) faults faults_now loan loan_now
-    pub text : WritesUpTo c before after lines at
+-- some lines, and one behind them, if there is one
+abbrev pub with_last : List RunLine → Option RunLine → List RunLine
+with_last lines (Some at) = lines ++ at ∷ []
+with_last lines None = lines
+
+module _ (exact : Bool) (old new : WriterView) (lines : List RunLine) where
+  -- a writer has come on by some lines
+  pub record HasWrittenLines : Type 0 where
+    pub names_stay : new.names ≡ old.names
+    pub put : HasPut exact ⊥ old.faults new.faults old.loan new.loan
+    pub text : GoesOut (run_lines_text old.names lines) old.held new.held old.written new.written
+
+  -- the sink has failed behind some lines: a front was written of what was held back and of these lines
+  pub record HasFailedBehind : Type 0 where
+    pub names_stay : new.names ≡ old.names
+    pub put : HasPut exact (Unit {0}) old.faults new.faults old.loan new.loan
+    pub text : AddsPrefix (old.held ++ run_lines_text old.names lines) old.written new.written

@@ -6,8 +6,10 @@ use cluster_types::Action;
 use graph_exec::{InFlight, Next, Outcomes};
 
 impl<'c, 's, S: Source> Outcomes for LineOutcomes<'c, 's, S> {
-    ghost use Rattle.std.specs.Prelude.{true, false};
-    ghost use Rattle.live_run.specs.Courses.{faults_of, has_course_ended, rest_of, told_by, whole_of};
+    ghost use Rattle.std.specs.Prelude.{◌≡◌, true, false, Some};
+    ghost use Rattle.live_run.specs.AtHand.{IsAtHand};
+    ghost use Rattle.live_run.specs.Courses.{faults_of, has_course_ended, rest_of, stop_of, told_by, whole_of};
+    ghost use Rattle.live_run.specs.declared.line_stop.LineStop.TheVariants.{ReadFault};
     ghost use Rattle.live_run.specs.Followed.{HasFollowed, HasSaid};
     ghost use Rattle.live_run.specs.LineSources.{outcomes_source, standing_of, outcomes_view};
     ghost use Rattle.live_run.specs.FollowedLaws.{followed_itself, followed_said, followed_then, said_behind};
@@ -25,6 +27,10 @@ impl<'c, 's, S: Source> Outcomes for LineOutcomes<'c, 's, S> {
     ghost steady = { λ _. true };
 
     ghost over = { λ o. has_course_ended (standing_of o).course };
+
+    ghost at_hand = { λ o. IsAtHand (standing_of o) };
+
+    ghost broke = { λ o. stop_of (standing_of o) ≡ Some ReadFault };
 
     ghost agrees = { λ _ _ _ _. Unit {0} };
 
@@ -45,6 +51,10 @@ impl<'c, 's, S: Source> Outcomes for LineOutcomes<'c, 's, S> {
         (outcomes_view S.left S.faults middle) (outcomes_view S.left S.faults last) };
 
     fn begun(&mut self, _number: u32, _action: Action) {}
+
+    fn is_ready(&self) -> bool {
+        self.is_at_hand()
+    }
 
     fn next(&mut self, _flight: &InFlight) -> Next {
         self.ask()

@@ -1,4 +1,4 @@
-//! A run over result lines as they come, each line written as it happens, to where its text ends (Pacemaker
+//! A run over result lines as they come, each line written before the next one is waited for, to where its text ends (Pacemaker
 //! Administration, "Transitions"; when a run ends is a rule of this project).
 #![tactic(auto)]
 
@@ -9,6 +9,7 @@ mod head;
 mod line_stop;
 
 // What one line says.
+mod at_hand;
 mod line_saying;
 mod place;
 mod said;
@@ -23,6 +24,7 @@ mod course;
 mod line_outcomes;
 
 // A writer of the lines of a run.
+mod held_text;
 mod line_writer;
 mod run_writing;
 mod writing;
@@ -37,6 +39,7 @@ mod running;
 mod run_laws;
 
 pub use head::{HeadStop, HeadText, read_head};
+pub use held_text::HeldText;
 pub use line_outcomes::LineOutcomes;
 pub use line_stop::{LineCause, LineStop};
 pub use line_writer::LineWriter;

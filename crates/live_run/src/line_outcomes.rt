@@ -1,14 +1,16 @@
 //! A source of answers that are read from lines as they are asked for.
 
-ghost use Rattle.std.specs.Prelude.{◌≡◌, ◌+◌, ◌≤◌, ◌<◌, ◌^◌, None, Some, true, false, is_none, is_some, IfOk};
+ghost use Rattle.std.specs.Prelude.{◌≡◌, ◌≢◌, ◌+◌, ◌≤◌, ◌<◌, ◌^◌, None, Some, true, false, is_none, is_some, IfOk};
 ghost use Rattle.cluster_io.specs.LineReaders.{loan_of, reading_of, source_of};
 ghost use Rattle.cluster_io.specs.Streams.{Bears, Rose};
+ghost use Rattle.live_run.specs.AtHand.{IsAtHand};
 ghost use Rattle.live_run.specs.Coming.{AreReady};
 ghost use Rattle.live_run.specs.Courses.{CourseAnswers, LineStays, faults_of, has_course_ended, is_reading, starting, stop_of, stops_last};
 ghost use Rattle.live_run.specs.Followed.{HasSaid};
 ghost use Rattle.live_run.specs.Heads.{CanGoOn};
 ghost use Rattle.live_run.specs.ResultReaders.{reader_lines};
 
+use crate::at_hand::begins_result;
 use crate::came::Came;
 use crate::course::Course;
 use crate::line_stop::LineStop;
@@ -139,6 +141,17 @@ impl<'c, 's, S: Source> LineOutcomes<'c, 's, S> {
         }
     }
 
+    /// Whether the next question surely reads nothing from the source of bytes: a whole line that has words is held, or no
+    /// line is read any more. It looks through the first physical line that is held.
+    pub fn is_at_hand(&self) -> bool
+        ensures { result ≡ true → IsAtHand (standing_of self.now) }
+    {
+        match self.course {
+            Course::Reading => begins_result(self.reader.lines.held()),
+            Course::Ended | Course::Stopped { .. } => true,
+        }
+    }
+
     /// Reads on to the next answer, or to what comes in its place.
     fn read_on(&mut self) -> Next
         requires { is_reading (standing_of self.old).course ≡ true }
@@ -148,6 +161,8 @@ impl<'c, 's, S: Source> LineOutcomes<'c, 's, S> {
         ensures line { LineStays result (standing_of self.old).line (standing_of self.new).line }
         ensures asked { (standing_of self.new).lines.at.before ≤ (standing_of self.old).lines.at.before + 1 }
         ensures stop { result ≡ Next.Failed → is_some (stop_of (standing_of self.new)) ≡ true }
+        ensures unread { IsAtHand (standing_of self.old) → outcomes_source self.new ≡ outcomes_source self.old }
+        ensures at_hand { IsAtHand (standing_of self.old) → result ≡ Next.Failed → stop_of (standing_of self.new) ≢ Some LineStop.ReadFault }
         ensures cause { result ≡ Next.Failed → Rose (faults_of (standing_of self.old) (S.faults (outcomes_source self.old)))
             (faults_of (standing_of self.new) (S.faults (outcomes_source self.new))) }
         ensures bears { Bears S.counts_only_failures ((result ≡ Next.Failed) × (stop_of (standing_of self.new) ≡ Some LineStop.ReadFault))
@@ -176,7 +191,7 @@ impl<'c, 's, S: Source> LineOutcomes<'c, 's, S> {
 
     /// The next answer. `line` then gives its line. It is `Silent` at the end of the input and ever after. It is
     /// `Failed` where the source of bytes failed in this call, and where the next line is refused or goes past the
-    /// limit; `stop` then says which.
+    /// limit; `stop` then says which. After `is_at_hand` has said yes, it leaves the source of bytes as it is.
     pub fn ask(&mut self) -> Next
         ensures answers { CourseAnswers result (standing_of self.old) (standing_of self.new)
             (S.left (outcomes_source self.old)) (S.left (outcomes_source self.new)) }
@@ -184,6 +199,8 @@ impl<'c, 's, S: Source> LineOutcomes<'c, 's, S> {
         ensures line { LineStays result (standing_of self.old).line (standing_of self.new).line }
         ensures asked { (standing_of self.new).lines.at.before ≤ (standing_of self.old).lines.at.before + 1 }
         ensures stop { result ≡ Next.Failed → is_some (stop_of (standing_of self.new)) ≡ true }
+        ensures unread { IsAtHand (standing_of self.old) → outcomes_source self.new ≡ outcomes_source self.old }
+        ensures at_hand { IsAtHand (standing_of self.old) → result ≡ Next.Failed → stop_of (standing_of self.new) ≢ Some LineStop.ReadFault }
         ensures over { has_course_ended (standing_of self.old).course ≡ true → has_course_ended (standing_of self.new).course ≡ true }
 
         // How often it and its source have failed.

@@ -1,9 +1,10 @@
 //! Result lines one by one.
 
-ghost use Rattle.std.specs.Prelude.{◌≡◌, ◌+◌, ◌<◌, ◌≤◌, ◌^◌, None, Some, true, length};
+ghost use Rattle.std.specs.Prelude.{◌≡◌, ◌≢◌, ◌+◌, ◌<◌, ◌≤◌, ◌^◌, None, Some, true, length};
 ghost use Rattle.cluster_io.specs.LineReaders.{reading_of};
 ghost use Rattle.cluster_io.specs.Streams.{Bears};
 ghost use Rattle.crm_lex.specs.RawLines.{physical_lines};
+ghost use Rattle.live_run.specs.AtHand.{HoldsResultLine};
 ghost use Rattle.live_run.specs.Coming.{AreReady};
 ghost use Rattle.live_run.specs.Inner.ComingSteps.{Brings, answers_in, reads_on, is_stop_last, said_came};
 ghost use Rattle.live_run.specs.Inner.ReadSteps.{ReadUntil};
@@ -77,6 +78,9 @@ impl<'s, S: Source> ResultReader<'s, S> {
         ensures last { is_stop_last result ≡ true }
         ensures fewer { result ≡ None → (reader_lines self.new).reading.room < (reader_lines self.old).reading.room }
         ensures counted { (reader_lines self.new).at.before ≡ (reader_lines self.old).at.before + answers_in result }
+        ensures unread { HoldsResultLine (reader_lines self.old).reading.held → source_in self.new ≡ source_in self.old }
+        ensures some { HoldsResultLine (reader_lines self.old).reading.held → result ≢ None }
+        ensures at_hand { HoldsResultLine (reader_lines self.old).reading.held → result ≢ Some Came.Fault }
 
         ensures bears { Bears S.counts_only_failures (result ≡ Some Came.Fault)
             (S.faults (source_in self.old)) (S.faults (source_in self.new)) }
@@ -106,6 +110,8 @@ impl<'s, S: Source> ResultReader<'s, S> {
         ensures going { reads_on (Some result) ≡ true → (reader_lines self.new).reading.stop ≡ None }
         ensures last { is_stop_last (Some result) ≡ true }
         ensures counted { (reader_lines self.new).at.before ≡ (reader_lines self.old).at.before + answers_in (Some result) }
+        ensures unread { HoldsResultLine (reader_lines self.old).reading.held → source_in self.new ≡ source_in self.old }
+        ensures at_hand { HoldsResultLine (reader_lines self.old).reading.held → result ≢ Came.Fault }
 
         ensures bears { Bears S.counts_only_failures (result ≡ Came.Fault)
             (S.faults (source_in self.old)) (S.faults (source_in self.new)) }

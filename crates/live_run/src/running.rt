@@ -1,6 +1,6 @@
 //! A run over result lines as they come.
 
-ghost use Rattle.std.specs.Prelude.{◌≡◌, ◌≢◌, ◌↔◌, ◌<◌, ◌^◌, [], IfSome};
+ghost use Rattle.std.specs.Prelude.{◌≡◌, ◌≢◌, ◌↔◌, ◌<◌, ◌^◌, ◌++◌, [], Some, IfSome};
 ghost use Rattle.cluster_io.specs.Streams.{Bears, Rose};
 ghost use Rattle.cluster_types.specs.declared.run.RunLine.TheVariants as told;
 ghost use Rattle.cluster_types.specs.Journals.{moment_of};
@@ -11,13 +11,14 @@ ghost use Rattle.live_run.specs.Courses.{starting, stop_of};
 ghost use Rattle.live_run.specs.LineSources.{outcomes_loan, outcomes_source, standing_of};
 ghost use Rattle.live_run.specs.declared.live_end.LiveEnd.{LiveEnd as LiveEndOf};
 ghost use Rattle.live_run.specs.Ends.{IsDueText};
-ghost use Rattle.live_run.specs.LineWriters.{writer_cluster, writer_loan, sink_of};
+ghost use Rattle.live_run.specs.declared.line_stop.LineStop.TheVariants.{ReadFault};
+ghost use Rattle.live_run.specs.LineWriters.{writer_held, writer_cluster, writer_loan, sink_of};
 ghost use Rattle.live_run.specs.Writing.{IsSameSink};
 ghost use Rattle.live_run.specs.Reached.{Reaches, results_behind};
-ghost use Rattle.live_run.specs.Inner.RunEnds.{EndsCut, EndsLines};
+ghost use Rattle.live_run.specs.Inner.RunEnds.{EndsCut, EndsDone, EndsLines, EndsWithoutMemory};
 
 use crate::live_end::LiveEnd;
-use crate::{LineOutcomes, LineStop, LineWriter};
+use crate::{HeldText, LineOutcomes, LineStop, LineWriter};
 use cluster_io::{Sink, Source};
 use cluster_types::{Cluster, Journal};
 use graph_exec::{ReplayStop, replay_watched};
@@ -26,12 +27,36 @@ use std::alloc::Global;
 /// The most transitions of a run: each but the last takes a result line, and at most 10,000 are read.
 const MOST_TRANSITIONS: u32 = 10_001;
 
+/// How a run ends that is whole.
+fn end_of_whole<W: Sink>(writer: &mut LineWriter<'_, '_, W>) -> LiveEnd
+    ensures text { EndsDone (writer_held writer.old) result (W.written (sink_of writer.old)) (W.written (sink_of writer.new)) }
+    ensures bears { Bears W.counts_only_failures (result ≡ LiveEnd.WriteFault) (W.faults (sink_of writer.old)) (W.faults (sink_of writer.new)) }
+    ensures same_sink { IsSameSink (writer_loan writer.old) (writer_loan writer.new) }
+{
+    match writer.finish() {
+        Ok(()) => LiveEnd::Done,
+        Err(_) => LiveEnd::WriteFault,
+    }
+}
+
+/// How a run ends when memory runs out.
+fn end_without_memory<W: Sink>(writer: &mut LineWriter<'_, '_, W>) -> LiveEnd
+    ensures text { EndsWithoutMemory (writer_held writer.old) result (W.written (sink_of writer.old)) (W.written (sink_of writer.new)) }
+    ensures bears { Bears W.counts_only_failures (result ≡ LiveEnd.WriteFault) (W.faults (sink_of writer.old)) (W.faults (sink_of writer.new)) }
+    ensures same_sink { IsSameSink (writer_loan writer.old) (writer_loan writer.new) }
+{
+    match writer.finish() {
+        Ok(()) => LiveEnd::NoMemory,
+        Err(_) => LiveEnd::WriteFault,
+    }
+}
+
 /// How a run ends when its last answer doesn't apply.
 fn end_of_cut<S: Source, W: Sink>(
     outcomes: &LineOutcomes<'_, '_, S>,
     writer: &mut LineWriter<'_, '_, W>,
 ) -> LiveEnd
-    ensures text { EndsCut (run_line (writer_cluster writer.old) (told.Unexpected (standing_of outcomes.now).line)) result
+    ensures text { EndsCut (writer_held writer.old ++ run_line (writer_cluster writer.old) (told.Unexpected (standing_of outcomes.now).line)) result
         (W.written (sink_of writer.old)) (W.written (sink_of writer.new)) }
     ensures bears { Bears W.counts_only_failures (result ≡ LiveEnd.WriteFault) (W.faults (sink_of writer.old)) (W.faults (sink_of writer.new)) }
     ensures same_sink { IsSameSink (writer_loan writer.old) (writer_loan writer.new) }
@@ -43,12 +68,12 @@ fn end_of_cut<S: Source, W: Sink>(
 }
 
 /// How a run ends when the line that it needs can't be read: the line is refused, goes past the limit of bytes, or the
-/// source failed.
+/// source failed. Where the source failed, nothing is held back.
 fn end_of_lines<S: Source, W: Sink>(
     outcomes: &LineOutcomes<'_, '_, S>,
     writer: &mut LineWriter<'_, '_, W>,
 ) -> LiveEnd
-    ensures text { EndsLines (stop_of (standing_of outcomes.now)) result (W.written (sink_of writer.old)) (W.written (sink_of writer.new)) }
+    ensures text { EndsLines (writer_held writer.old) (stop_of (standing_of outcomes.now)) result (W.written (sink_of writer.old)) (W.written (sink_of writer.new)) }
     ensures bears { Bears W.counts_only_failures (result ≡ LiveEnd.WriteFault) (W.faults (sink_of writer.old)) (W.faults (sink_of writer.new)) }
     ensures same_sink { IsSameSink (writer_loan writer.old) (writer_loan writer.new) }
 {
@@ -57,7 +82,10 @@ fn end_of_lines<S: Source, W: Sink>(
             Ok(()) => LiveEnd::Refused,
             Err(_) => LiveEnd::WriteFault,
         },
-        Some(LineStop::TooLarge) => LiveEnd::TooLarge,
+        Some(LineStop::TooLarge) => match writer.finish() {
+            Ok(()) => LiveEnd::TooLarge,
+            Err(_) => LiveEnd::WriteFault,
+        },
         Some(LineStop::ReadFault) | None => LiveEnd::ReadFault,
     }
 }
@@ -76,6 +104,7 @@ fn run_to_end<S: Source, W: Sink>(
     requires fresh { standing_of outcomes.old
         ≡ starting cluster.now (moment_of journal.events) (standing_of outcomes.old).lines.reading }
     requires names { writer_cluster writer.old ≡ cluster.now }
+    requires empty { writer_held writer.old ≡ [] }
     ensures reaches { IfSome (S.left (outcomes_source outcomes.old)) (λ left. Reaches cluster.now journal (standing_of outcomes.old).lines.reading left
         (S.left (outcomes_source outcomes.new)) (W.written (sink_of writer.old)) (W.written (sink_of writer.new)) result) }
     ensures at_end { result ≡ LiveEnd.Done → IfSome (S.left (outcomes_source outcomes.new)) (λ left. left ≡ []) }
@@ -88,7 +117,7 @@ fn run_to_end<S: Source, W: Sink>(
     match replay_watched(alloc, cluster, journal, outcomes, writer, MOST_TRANSITIONS) {
         Ok(journal) => {
             drop(journal);
-            LiveEnd::Done
+            end_of_whole(writer)
         }
         Err(ReplayStop::Unexpected(journal, _)) => {
             drop(journal);
@@ -105,14 +134,14 @@ fn run_to_end<S: Source, W: Sink>(
         // Each transition but the last takes a result line: so many are never made.
         Err(ReplayStop::Most(journal)) => {
             drop(journal);
-            LiveEnd::NoMemory
+            end_without_memory(writer)
         }
-        Err(ReplayStop::NoMemory) => LiveEnd::NoMemory,
+        Err(ReplayStop::NoMemory) => end_without_memory(writer),
     }
 }
 
 /// Carries out the run of a journal of a cluster over the answers that a source reads from lines, and writes each of its lines
-/// as it happens. Where an answer doesn't apply, the last line is `unexpected LINE` with the line of the answer; where the line
+/// before the source of bytes is read again. Where an answer doesn't apply, the last line is `unexpected LINE` with the line of the answer; where the line
 /// that is asked for isn't read, it is `refused LINE CAUSE`. After a failed write nothing more is read.
 ///
 /// It asks for a valid cluster, for a journal in order with nothing in flight, as a status gives it, for a moment below 2^40
@@ -145,6 +174,9 @@ pub fn run_live<S: Source, W: Sink>(
     ensures writes { Bears W.counts_only_failures (result ≡ LiveEnd.WriteFault) (W.faults out.old) (W.faults out.new) }
     ensures same_source { outcomes_loan outcomes.new ≡ outcomes_loan outcomes.old }
 {
-    let mut writer = LineWriter::new(cluster, out);
+    let Ok(mut held) = HeldText::new(alloc) else {
+        return LiveEnd::NoMemory;
+    };
+    let mut writer = LineWriter::new(cluster, out, &mut held);
     run_to_end(alloc, cluster, journal, outcomes, &mut writer)
 }

@@ -9,7 +9,7 @@ use cluster_io::MemorySink;
 use cluster_types::{Action, Answer, Cluster, Placed, Table, Target};
 use graph_exec::{Heard, Watcher};
 use listed::Listed;
-use live_run::LineWriter;
+use live_run::{HeldText, LineWriter};
 use std::alloc::Global;
 use std::process::Abort;
 
@@ -31,8 +31,8 @@ fn on_second(rt: &impl Abort, alloc: Global) -> Placed
     }
 }
 
-/// A plan, a begin, an answer and an end are told.
-fn tell<V: Watcher>(watcher: &mut V, placed: &Placed) -> [Heard; 4]
+/// A plan, a begin, an answer and an end are told, and then that the source is asked.
+fn tell<V: Watcher>(watcher: &mut V, placed: &Placed) -> [Heard; 5]
     requires { ReasonsHaveNames placed.now }
 {
     let probe = Action::Probe { leaf: 0, node: 0 };
@@ -41,6 +41,7 @@ fn tell<V: Watcher>(watcher: &mut V, placed: &Placed) -> [Heard; 4]
         watcher.begun(1, probe),
         watcher.taken(Answer::End { number: 1, code: 7 }),
         watcher.closed(1, true),
+        watcher.waits(),
     ]
 }
 
@@ -48,55 +49,66 @@ const GO: Heard = Heard::Go;
 
 const STOP: Heard = Heard::Stop;
 
-/// How many bytes a write takes, which writes fail, what the writer says, and what is written.
-type Row = (usize, &'static [u32], [Heard; 4], &'static str);
+/// How many bytes a write takes, which writes fail, what the writer says at last, and what is written.
+type Row = (usize, &'static [u32], Heard, &'static str);
 
 const ROWS: &[Row] = &[
     (
         1000,
         &[],
-        [GO, GO, GO, GO],
+        GO,
         "transition 1\ntarget vip n2 started\nbegin 1 probe vip n1\nend 1 7\ncomplete 1\n",
     ),
-    // The second line of the plan fails, and the later lines are written.
+    // All lines leave by one write.
+    (1000, &[1], STOP, ""),
     (
         1000,
         &[2],
-        [STOP, GO, GO, GO],
-        "transition 1\nbegin 1 probe vip n1\nend 1 7\ncomplete 1\n",
+        GO,
+        "transition 1\ntarget vip n2 started\nbegin 1 probe vip n1\nend 1 7\ncomplete 1\n",
     ),
-    // Half of a line is written.
-    (
-        10,
-        &[2],
-        [STOP, GO, GO, GO],
-        "transitionbegin 1 probe vip n1\nend 1 7\ncomplete 1\n",
-    ),
-    (
-        1000,
-        &[3, 5],
-        [GO, STOP, GO, STOP],
-        "transition 1\ntarget vip n2 started\nend 1 7\n",
-    ),
+    // A part of a line is written.
+    (20, &[2], STOP, "transition 1\ntarget "),
 ];
 
 fn check_row(rt: &impl Abort, alloc: Global, cluster: &Cluster, placed: &Placed, row: &Row)
     requires valid { IsValid cluster.now }
     requires named { ReasonsHaveNames placed.now }
 {
-    let (step, fails, heard, text) = row;
+    let (step, fails, last, text) = row;
     assert!(rt; *step > 0);
     let fails = fails.to_vec(alloc).expect(rt, "memory");
     let mut sink = MemorySink::new(alloc, 1000, *step, fails).expect(rt, "memory");
-    let said = tell(&mut LineWriter::new(cluster, &mut sink), placed);
-    assert!(rt; said == *heard && sink.bytes() == text.as_bytes());
+    let mut held = HeldText::new(alloc).expect(rt, "memory");
+    let said = tell(&mut LineWriter::new(cluster, &mut sink, &mut held), placed);
+    assert!(rt; said == [GO, GO, GO, GO, *last] && sink.bytes() == text.as_bytes());
 }
 
 #[test]
-fn each_line_is_written_as_it_is_told(rt: HostRuntime) {
+fn lines_leave_together_when_the_source_is_asked(rt: HostRuntime) {
     let cluster = cluster_of(&rt, rt.alloc(), TWO);
     let placed = on_second(&rt, rt.alloc());
     for row in ROWS {
         check_row(&rt, rt.alloc(), &cluster, &placed, row);
     }
+}
+
+/// So many begins are told, of which each line has 21 bytes: some 3,120 lines are held back at most.
+fn begin_often(watcher: &mut impl Watcher, times: u32) -> bool {
+    let probe = Action::Probe { leaf: 0, node: 0 };
+    let mut goes = true;
+    for _ in 0..times {
+        goes = goes && watcher.begun(1, probe) == GO;
+    }
+    goes
+}
+
+#[test]
+fn what_does_not_fit_leaves_before(rt: HostRuntime) {
+    let alloc = rt.alloc();
+    let cluster = cluster_of(&rt, alloc, TWO);
+    let mut sink = MemorySink::new(alloc, 100_000, 100_000, Vec::new(alloc)).expect(&rt, "memory");
+    let mut held = HeldText::new(alloc).expect(&rt, "memory");
+    let goes = begin_often(&mut LineWriter::new(&cluster, &mut sink, &mut held), 4_000);
+    assert!(&rt; goes && sink.bytes().len() == 65_520);
 }

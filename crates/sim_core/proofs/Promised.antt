@@ -4,7 +4,6 @@ use Rattle.std.proofs.Math.Seq.{take-length}
 use Rattle.std.proofs.lemmas.Option.{IfSome_then}
 use Rattle.cluster_io.specs.Readings.{Reading}
 use Rattle.cluster_io.specs.Streams.{Adds, AddsPrefix}
-use Rattle.cluster_io.proofs.Pieces.{Adds-then}
 use Rattle.cluster_types.specs.declared.cluster.Cluster.{Cluster}
 use Rattle.cluster_types.specs.declared.journal.Answer.{Answer}
 use Rattle.cluster_types.specs.declared.journal.Event.{Event}
@@ -18,13 +17,14 @@ use Rattle.input_reading.specs.declared.input.reading.Head.{Head}
 use Rattle.input_reading.specs.Causes.{refusal_text}
 use Rattle.live_run.proofs.Dues.{begins_due, one_end}
 use Rattle.live_run.proofs.NoFault.{coming_no_fault}
-use Rattle.live_run.proofs.Written.{adds_none, prefix_first}
+use Rattle.live_run.proofs.Written.{adds_none}
+use Rattle.live_run.specs.Inner.Fronts.{prefix_first}
 use Rattle.live_run.specs.Coming.{Coming}
 use Rattle.live_run.specs.Courses.{answers_to_come}
 use Rattle.live_run.specs.declared.live_end.LiveEnd.{LiveEnd}
 use Rattle.live_run.specs.declared.live_end.LiveEnd.TheVariants as end
 use Rattle.live_run.specs.Ends.{EndGets, run_lines_text}
-use Rattle.live_run.specs.Reached.{HasNoMemory, IsBrokenOff, IsCutOff, WriterCall, in_run, of_unexpected, of_refusal, first_result_place, lines_before_call, text_of_call, results_behind}
+use Rattle.live_run.specs.Reached.{HasNoMemory, IsBrokenOff, IsCutOff, WriterCall, at_rest, in_run, of_unexpected, of_refusal, first_result_place, lines_before_call, text_of_call, results_behind}
 use Rattle.plan_laws.proofs.LawfulTable.{lawful}
 use Rattle.plan_laws.proofs.OnePlan.{one_list, one_placed}
 use Rattle.planner.proofs.SomePlan.{actions, goals, is_plan}
@@ -42,6 +42,7 @@ use Rattle.sim_core.specs.Replay.{IsBegun, IsReplayOutput, IsTextOfRun, coming_b
 use Rattle.sim_core.specs.Table.{live, intake}
 use Rattle.sim_core.proofs.SameComing.{same_coming}
 use Rattle.sim_core.proofs.SomeEnd.{HasEnd, some_end}
+use Rattle.sim_core.proofs.WrittenFronts.{cut_at}
 
 has_one_plan : (c : Cluster) (promotions : List Promotion) → IsValid c → (es : List Event) → HasOnePlan c promotions es
 has_one_plan c promotions valid es = record {
@@ -175,6 +176,7 @@ module _ (input : List ℕ) where
       stands_before : (call : WriterCall head.cluster head.journal reading unread left)
           → StandsBefore (lines_before_call head.cluster head.journal reading unread left call)
       stands_before (in_run call) = record { at = call.run.before; behind = call.run.middle; printed = call.run.steps }
+      stands_before (at_rest call) = record { at = call.at; behind = _; printed = call.run }
       stands_before (of_unexpected call) = record { at = call.run.run.last; behind = call.run.run.unread; printed = call.run.run.steps }
       stands_before (of_refusal call) = record {
         at = call.run.run.last;
@@ -187,14 +189,15 @@ module _ (input : List ℕ) where
       cut_off cut =
           let lines = lines_before_call head.cluster head.journal reading unread left cut.call in
           let stands = stands_before cut.call in
-          let part = take cut.front.count (text_of_call head.cluster head.journal reading unread left cut.call) in (
-            part,
+          let cut_off = cut_at head.cluster head.journal.promotions (is_none all.stop) (due 1 head.journal.events) stands.at (Some (answers_to_come all)) stands.behind lines stands.printed
+          (text_of_call head.cluster head.journal reading unread left cut.call) cut.front.count in (
+            cut_off.part,
             record {
-              lines = lines;
-              at = stands.at;
-              behind = stands.behind;
-              so_far = stands.printed;
-              added = Adds-then before cut.middle after (run_lines_text head.cluster lines) part cut.before cut.front.added;
+              lines = cut_off.lines;
+              at = cut_off.stands;
+              behind = cut_off.behind;
+              so_far = cut_off.runs;
+              added = subst (λ (t : List ℕ). Adds before t after) cut_off.parts cut.front.added;
               ends = ends_now;
               begins = cut.begins;
               safe = safe_now;

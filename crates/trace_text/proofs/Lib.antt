@@ -1,5 +1,7 @@
 pub mod MoreLines
 pub mod ShortNames
+-- A line has room.
+pub mod ShortLines
 -- The edges to each position.
 pub mod Linked
 -- The first of some numbers.

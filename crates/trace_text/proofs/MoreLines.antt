@@ -52,55 +52,12 @@ pub lines_of_three : {Y : Type 0} (text : Y → List ℕ) (first second third : 
 lines_of_three text first second third =
     flat_map-append text (first ++ second) third ∙ ap (λ t. t ++ flat_map text third) (flat_map-append text first second)
 
--- lines, then the lines of numbers, then more lines, added one after the other
-pub lines_of_leaf : {Y : Type 0} (text : Y → List ℕ) (first : List Y) (line : ℕ → List Y) (ns : List ℕ) (third : List Y) (old one two three : List ℕ)
-    → one ≡ old ++ flat_map text first → two ≡ one ++ flat_map (λ n. flat_map text (line n)) ns → three ≡ two ++ flat_map text third
-    → three ≡ old ++ flat_map text (first ++ flat_map line ns ++ third)
-lines_of_leaf text first line ns third old one two three a b d =
-    let second = lines_of_lines text line ns in
-    let all = lines_of_three text first (flat_map line ns) third in
-    d ∙ ap (λ t. t ++ flat_map text third) (b ∙ (ap (λ t. t ++ flat_map (λ n. flat_map text (line n)) ns) a ∙ ap (λ t. old ++ flat_map text first ++ t) (sym second)))
-    ∙ (ap (λ t. t ++ flat_map text third) (append_assoc old (flat_map text first) (flat_map text (flat_map line ns)))
-    ∙ (append_assoc old (flat_map text first ++ flat_map text (flat_map line ns)) (flat_map text third) ∙ ap (λ t. old ++ t) (sym all)))
-
--- the text of one line
-pub one_line : {Y : Type 0} (text : Y → List ℕ) (line : Y) (before after : List ℕ) → after ≡ before ++ text line → after ≡ before ++ flat_map text (line ∷ [])
-one_line text line before after is = is ∙ ap (λ t. before ++ t) (sym (append-nil (text line)))
-
--- the text of two words, and of two more
-pub two_more : (old one two first second third last : List ℕ) → one ≡ old ++ (first ++ second) → two ≡ one ++ (third ++ last)
-    → two ≡ old ++ (first ++ second ++ third ++ last)
-two_more old one two first second third last is more =
-    more ∙ (ap (λ t. t ++ (third ++ last)) is ∙ simp append_assoc)
-
 -- the text of six parts, one behind the other
 module _ (old one two three four five six first second third fourth fifth last : List ℕ) where
   pub six_more : one ≡ old ++ first → two ≡ one ++ second → three ≡ two ++ third → four ≡ three ++ fourth → five ≡ four ++ fifth → six ≡ five ++ last
       → six ≡ old ++ (first ++ second ++ third ++ fourth ++ fifth ++ last)
   six_more a b d e f g =
       g ∙ ap (λ t. t ++ last) (f ∙ ap (λ t. t ++ fifth) (e ∙ ap (λ t. t ++ fourth) (d ∙ ap (λ t. t ++ third) (b ∙ ap (λ t. t ++ second) a)))) ∙ simp append_assoc
-
--- the text of a word and a place, which is two names with a text between them
-pub placed_more : (old one two word first between last : List ℕ) → one ≡ old ++ (word ++ first) → two ≡ one ++ (between ++ last)
-    → two ≡ old ++ (word ++ (first ++ between ++ last))
-placed_more old one two word first between last is more = more ∙ (ap (λ t. t ++ (between ++ last)) is ∙ simp append_assoc)
-
--- the text of two words, and of one more and one more
-pub three_more : (old one two three first second third last : List ℕ) → one ≡ old ++ (first ++ second) → two ≡ one ++ third → three ≡ two ++ last
-    → three ≡ old ++ (first ++ second ++ third ++ last)
-three_more old one two three first second third last a b d =
-    d ∙ (ap (λ t. t ++ last) (b ∙ ap (λ t. t ++ third) a) ∙ simp append_assoc)
-
--- the text of eight words, two by two
-module _ (old one two three four first second third fourth fifth sixth seventh last : List ℕ) where
-  pub eight_more : one ≡ old ++ (first ++ second) → two ≡ one ++ (third ++ fourth) → three ≡ two ++ (fifth ++ sixth) → four ≡ three ++ (seventh ++ last)
-      → four ≡ old ++ (first ++ second ++ third ++ fourth ++ fifth ++ sixth ++ seventh ++ last)
-  eight_more a b d e =
-      e ∙ ap (λ t. t ++ (seventh ++ last)) (d ∙ ap (λ t. t ++ (fifth ++ sixth)) (b ∙ ap (λ t. t ++ (third ++ fourth)) a)) ∙ simp append_assoc
-
--- the text of words, and of what ends their line
-pub ended : (old new words end : List ℕ) → new ≡ old ++ words → new ++ end ≡ old ++ (words ++ end)
-ended old new words end is = ap (λ t. t ++ end) is ∙ append_assoc old words end
 
 -- the text of a first line, and of three lists of lines
 pub lines_of_passed : {Y : Type 0} (text : Y → List ℕ) (first : Y) (goals events ends : List Y) (old one two three four : List ℕ)
@@ -126,3 +83,18 @@ pub lines_of_two : {Y : Type 0} (text : Y → List ℕ) (first second : List Y) 
 lines_of_two text first second old one two a b =
     b ∙ ap (λ t. t ++ flat_map text second) a ∙ append_assoc old (flat_map text first) (flat_map text second)
     ∙ ap (λ t. old ++ t) (sym (flat_map-append text first second))
+
+-- what is kept once bytes are put in turn
+module _ (more : List ℕ → List ℕ → List ℕ) (in_turn : (old first then : List ℕ) → more (more old first) then ≡ more old (first ++ then)) where
+  pub put_more : (old new first then : List ℕ) → new ≡ more old first → more new then ≡ more old (first ++ then)
+  put_more old new first then is = ap (λ (t : List ℕ). more t then) is ∙ in_turn old first then
+
+  pub put_three : (old one two three first second third : List ℕ) → one ≡ more old first → two ≡ more one second → three ≡ more two third
+      → three ≡ more old (first ++ second ++ third)
+  put_three old one two three first second third a b d =
+      d ∙ ap (λ (t : List ℕ). more t third) (b ∙ put_more old one first second a) ∙ in_turn old (first ++ second) third
+
+  pub put_four : (old one two three four first second third last : List ℕ) → one ≡ more old first → two ≡ more one second → three ≡ more two third
+      → four ≡ more three last → four ≡ more old (first ++ second ++ third ++ last)
+  put_four old one two three four first second third last a b d e =
+      e ∙ ap (λ (t : List ℕ). more t last) (put_three old one two three first second third a b d) ∙ in_turn old (first ++ second ++ third) last

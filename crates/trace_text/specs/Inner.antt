@@ -2,4 +2,6 @@
 pub mod Arriving
 pub mod Backward
 pub mod Found
+pub mod Room
+pub mod ShortNumbers
 pub mod Walk

@@ -7,8 +7,8 @@ ghost use Rattle.cluster_types.specs.declared.journal.Action.{Action as ActionOf
 ghost use Rattle.cluster_types.specs.Graphs.{is_before};
 ghost use Rattle.cluster_types.specs.Texts as texts;
 
-use crate::action_words::push_action;
 use crate::numbers::push_number;
+use crate::run_lines::put_action;
 use crate::walk::Predecessors;
 use cluster_types::{Cluster, Graph};
 use faults::NoMemory;
@@ -62,7 +62,7 @@ fn push_line(
     text.extend_from_slice(b"action ")?;
     push_number(text, number)?;
     text.extend_from_slice(b" ")?;
-    push_action(text, cluster, before.graph().action(number))?;
+    put_action(text, cluster, before.graph().action(number))?;
     before.walk_to(number);
     push_after(text, before)?;
     text.extend_from_slice(b"\n")?;

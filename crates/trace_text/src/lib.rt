@@ -2,7 +2,6 @@
 #![tactic(auto)]
 
 // Words that many lines have.
-mod action_words;
 mod names;
 mod numbers;
 
@@ -15,14 +14,15 @@ mod walk;
 mod graph_lines;
 mod loss_lines;
 mod score_lines;
-mod target_lines;
 mod target_walk;
 
 // The lines of a run: one by one without memory, and all in a text.
 mod line_buf;
+mod line_text;
 mod run_line_ref;
 mod run_lines;
 mod runs;
+mod short_numbers;
 
 // What follows from the definitions.
 mod laws;
@@ -34,8 +34,7 @@ pub use loss_lines::survive_text;
 pub use names::{node_name, push_leaf_on};
 pub use numbers::push_number;
 pub use run_line_ref::RunLineRef;
-pub use run_lines::write_line;
+pub use run_lines::{write_line, write_refusal};
 pub use runs::run_text;
 pub use score_lines::{push_decision, push_total, score_text};
-pub use target_lines::push_targets;
-pub use target_walk::{LineColumn, LinePlace, next_target_line};
+pub use target_walk::{LineColumn, LinePlace, next_target_line, push_targets};

@@ -1,8 +1,10 @@
 //! A line as it grows.
 
-ghost use Rattle.std.specs.Prelude.{◌≡◌, ◌+◌, ◌≤◌, ◌++◌, [], decimal, length};
+ghost use Rattle.std.specs.Prelude.{◌≡◌, ◌≤◌, ◌+◌, ◌++◌, [], length, take};
+ghost use Rattle.trace_text.specs.Inner.Room.{taken_in_turn};
 
-use itoa::Buffer;
+use crate::line_text::LineText;
+use faults::NoMemory;
 use std::marker::Model;
 
 /// How many bytes a line may have.
@@ -46,25 +48,21 @@ impl LineBuf {
         self.len = 0;
     }
 
-    /// Adds bytes.
-    pub fn put(&mut self, bytes: &[u8])
+    /// How many more bytes it has room for.
+    fn room(&self) -> usize
+        ensures { result + length self.now ≡ 1024 }
+    {
+        ROOM - self.len
+    }
+
+    /// Adds bytes for which there is room.
+    fn add(&mut self, bytes: &[u8])
         requires { length self.old + length bytes.now ≤ 1024 }
-        ensures text { self.new ≡ self.old ++ bytes.now }
-        ensures size { length self.new ≡ length self.old + length bytes.now }
+        ensures { self.new ≡ self.old ++ bytes.now }
     {
         let end = self.len + bytes.len();
         self.bytes[self.len..end].copy_from_slice(bytes);
         self.len = end;
-    }
-
-    /// Adds a number in decimal, without leading zeros.
-    pub fn put_number(&mut self, number: u64)
-        requires { length self.old + 40 ≤ 1024 }
-        ensures text { self.new ≡ self.old ++ decimal number }
-        ensures size { length self.new ≤ length self.old + 40 }
-    {
-        let mut digits = Buffer::new();
-        self.put(digits.format(number).as_bytes());
     }
 
     /// Its bytes.
@@ -73,5 +71,22 @@ impl LineBuf {
         ensures size { length result.now ≤ 1024 }
     {
         &self.bytes[..self.len]
+    }
+}
+
+/// It keeps the first 1,024 bytes.
+impl LineText for LineBuf {
+    ghost kept = { λ line. line };
+
+    ghost more = { λ old bytes. take 1024 (old ++ bytes) };
+
+    ghost may_fail = { ⊥ };
+
+    ghost in_turn = { taken_in_turn 1024 };
+
+    fn put(&mut self, bytes: &[u8]) -> Result<(), NoMemory> {
+        let count = self.room().min(bytes.len());
+        self.add(&bytes[..count]);
+        Ok(())
     }
 }

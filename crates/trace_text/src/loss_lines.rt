@@ -5,7 +5,7 @@ ghost use Rattle.cluster_types.specs.Valid.{KeepsLimits};
 ghost use Rattle.trace_text.specs.Losses as losses;
 
 use crate::names::node_name;
-use crate::target_lines::push_targets;
+use crate::target_walk::push_targets;
 use cluster_types::{Cluster, Loss, Report};
 use faults::NoMemory;
 use std::alloc::Global;

@@ -1,8 +1,9 @@
 //! Names of nodes and leaves.
 
-ghost use Rattle.std.specs.Prelude.{◌≡◌, ◌++◌, OnOk};
+ghost use Rattle.std.specs.Prelude.{◌≡◌, ◌++◌, OnErr, OnOk};
 ghost use Rattle.cluster_types.specs.Texts as texts;
 
+use crate::line_text::LineText;
 use cluster_types::{Cluster, LeafId};
 use faults::NoMemory;
 
@@ -16,6 +17,21 @@ pub fn node_name(cluster: &Cluster, node: usize) -> &[u8]
     }
 }
 
+/// A leaf and the node at a place, parted by a space.
+pub(crate) fn put_leaf_on<T: LineText>(
+    text: &mut T,
+    cluster: &Cluster,
+    leaf: LeafId,
+    node: usize,
+) -> Result<(), NoMemory>
+    ensures text { OnOk result (T.kept text.new ≡ T.more (T.kept text.old) (texts.leaf_on cluster.now leaf node)) }
+    ensures fails { OnErr result T.may_fail }
+{
+    text.put(cluster.leaf_name(leaf))?;
+    text.put(b" ")?;
+    text.put(node_name(cluster, node))
+}
+
 /// A leaf and the node at a place, parted by a space. `NoMemory` comes when memory runs out.
 pub fn push_leaf_on(
     text: &mut Vec<u8>,
@@ -25,8 +41,5 @@ pub fn push_leaf_on(
 ) -> Result<(), NoMemory>
     ensures { OnOk result (text.new.items ≡ text.old.items ++ texts.leaf_on cluster.now leaf node) }
 {
-    text.extend_from_slice(cluster.leaf_name(leaf))?;
-    text.extend_from_slice(b" ")?;
-    text.extend_from_slice(node_name(cluster, node))?;
-    Ok(())
+    put_leaf_on(text, cluster, leaf, node)
 }

@@ -1,131 +1,135 @@
-//! The lines of a run, written without memory.
+//! The lines of a run.
 
-ghost use Rattle.std.specs.Prelude.{◌≡◌, ◌≤◌, ◌+◌, ◌++◌, true, codes, decimal, length};
+ghost use Rattle.std.specs.Prelude.{◌≡◌, ◌≤◌, ◌++◌, codes, decimal, length, OnErr, OnOk};
+ghost use Rattle.cluster_types.specs.declared.cluster.Cluster.{Cluster as ClusterOf};
 ghost use Rattle.cluster_types.specs.Fields.{leaf_name};
 ghost use Rattle.cluster_types.specs.Texts as texts;
-ghost use Rattle.crm_lex.specs.Names.{is_name};
-ghost use Rattle.trace_text.specs.RunLines.{HasName, HasShortNames, IsReasonNamed, lent_line};
+ghost use Rattle.trace_text.specs.RunLines.{HasName, HasShortNames, lent_line};
 
-use crate::action_words::op_word;
 use crate::line_buf::LineBuf;
-use crate::names::node_name;
+use crate::line_text::LineText;
+use crate::names::{node_name, put_leaf_on};
+use crate::numbers::put_number;
 use crate::run_line_ref::RunLineRef;
+use crate::short_numbers::{line_is_short, number_is_short};
 use cluster_types::{Action, Answer, Cluster, LeafId, NoReason, NodeId, Op, Pin, Target};
-use crm_lex::Name;
+use faults::NoMemory;
 
-/// The name of a node.
-fn short_node(cluster: &Cluster, node: NodeId) -> &[u8]
-    requires { HasShortNames cluster.now }
-    ensures name { result.now ≡ texts.node_name cluster.now node }
-    ensures size { length result.now ≤ 256 }
+/// The word of an operation, with a space behind it.
+fn op_word(op: Op) -> &'static [u8]
+    ensures { result.now ≡ texts.op_word op }
 {
-    node_name(cluster, node as usize)
+    match op {
+        Op::Start => b"start ",
+        Op::Stop => b"stop ",
+        Op::Promote => b"promote ",
+        Op::Demote => b"demote ",
+        Op::Monitor => b"monitor ",
+    }
 }
 
-/// The name of a leaf.
-fn short_leaf(cluster: &Cluster, leaf: LeafId) -> &[u8]
-    requires { HasShortNames cluster.now }
-    ensures name { result.now ≡ leaf_name cluster.now leaf }
-    ensures size { length result.now ≤ 256 }
+/// Why a leaf is left as it is.
+fn pin_word(pin: Pin) -> &'static [u8]
+    ensures { (c : ClusterOf) → result.now ≡ texts.pin_text c pin }
 {
-    cluster.leaf_name(leaf)
+    match pin {
+        Pin::Unmanaged => b"unmanaged",
+        Pin::Blocked => b"blocked",
+    }
 }
 
-/// The name of a rule.
-fn short_id(id: &Name) -> &[u8]
-    requires { is_name id.now ≡ true }
-    ensures name { result.now ≡ id.now }
-    ensures size { length result.now ≤ 256 }
+/// What a leaf does where it goes.
+fn target_word(target: Target) -> &'static [u8]
+    ensures { (c : ClusterOf) → result.now ≡ texts.target_text c target }
 {
-    id.bytes()
+    match target {
+        Target::Nowhere => b"nowhere",
+        Target::Started => b"started",
+        Target::Promoted => b"promoted",
+    }
 }
 
 /// A word, and a number.
-fn put_numbered(text: &mut LineBuf, word: &[u8], number: u64)
-    requires short { length word.now ≤ 20 }
-    requires room { length text.old ≤ 900 }
-    ensures written { text.new ≡ text.old ++ (word.now ++ decimal number) }
-    ensures size { length text.new ≤ length text.old + 60 }
+fn put_numbered<T: LineText>(text: &mut T, word: &[u8], number: u64) -> Result<(), NoMemory>
+    ensures text { OnOk result (T.kept text.new ≡ T.more (T.kept text.old) (word.now ++ decimal number)) }
+    ensures fails { OnErr result T.may_fail }
 {
-    text.put(word);
-    text.put_number(number);
+    text.put(word)?;
+    put_number(text, number)
 }
 
 /// A word, and the name of a node.
-fn put_node(text: &mut LineBuf, cluster: &Cluster, word: &[u8], node: NodeId)
-    requires names { HasShortNames cluster.now }
-    requires short { length word.now ≤ 20 }
-    requires room { length text.old ≤ 740 }
-    ensures written { text.new ≡ text.old ++ (word.now ++ texts.node_name cluster.now node) }
-    ensures size { length text.new ≤ length text.old + length word.now + 256 }
+fn put_node<T: LineText>(
+    text: &mut T,
+    cluster: &Cluster,
+    word: &[u8],
+    node: NodeId,
+) -> Result<(), NoMemory>
+    ensures text { OnOk result (T.kept text.new ≡ T.more (T.kept text.old) (word.now ++ texts.node_name cluster.now node)) }
+    ensures fails { OnErr result T.may_fail }
 {
-    text.put(word);
-    text.put(short_node(cluster, node));
-}
-
-/// A word, and the name of a leaf.
-fn put_leaf(text: &mut LineBuf, cluster: &Cluster, word: &[u8], leaf: LeafId)
-    requires names { HasShortNames cluster.now }
-    requires short { length word.now ≤ 20 }
-    requires room { length text.old ≤ 740 }
-    ensures written { text.new ≡ text.old ++ (word.now ++ leaf_name cluster.now leaf) }
-    ensures size { length text.new ≤ length text.old + length word.now + 256 }
-{
-    text.put(word);
-    text.put(short_leaf(cluster, leaf));
+    text.put(word)?;
+    text.put(node_name(cluster, node as usize))
 }
 
 /// A word, and the leaf on the node.
-fn put_on(text: &mut LineBuf, cluster: &Cluster, word: &[u8], leaf: LeafId, node: NodeId)
-    requires names { HasShortNames cluster.now }
-    requires short { length word.now ≤ 20 }
-    requires room { length text.old ≤ 200 }
-    ensures written { text.new ≡ text.old ++ (word.now ++ texts.leaf_on cluster.now leaf node) }
-    ensures size { length text.new ≤ length text.old + 533 }
+fn put_on<T: LineText>(
+    text: &mut T,
+    cluster: &Cluster,
+    word: &[u8],
+    leaf: LeafId,
+    node: NodeId,
+) -> Result<(), NoMemory>
+    ensures text { OnOk result (T.kept text.new ≡ T.more (T.kept text.old) (word.now ++ texts.leaf_on cluster.now leaf node)) }
+    ensures fails { OnErr result T.may_fail }
 {
-    put_leaf(text, cluster, word, leaf);
-    put_node(text, cluster, b" ", node);
-}
-
-/// What a monitor is, with its interval in milliseconds behind it.
-fn put_monitor(text: &mut LineBuf, cluster: &Cluster, leaf: LeafId, node: NodeId, interval_ms: u32)
-    requires names { HasShortNames cluster.now }
-    requires room { length text.old ≤ 100 }
-    ensures written { text.new
-        ≡ text.old ++ (codes "monitor " ++ texts.leaf_on cluster.now leaf node ++ codes " " ++ decimal interval_ms) }
-    ensures size { length text.new ≤ length text.old + 800 }
-{
-    put_on(text, cluster, b"monitor ", leaf, node);
-    put_numbered(text, b" ", interval_ms as u64);
+    text.put(word)?;
+    put_leaf_on(text, cluster, leaf, node as usize)
 }
 
 /// A word, the leaf on the node, and where it is moved to or from.
-fn put_move(
-    text: &mut LineBuf,
+fn put_move<T: LineText>(
+    text: &mut T,
     cluster: &Cluster,
     word: &[u8],
     leaf: LeafId,
     source: NodeId,
     target: NodeId,
-)
-    requires names { HasShortNames cluster.now }
-    requires short { length word.now ≤ 20 }
-    requires room { length text.old ≤ 100 }
-    ensures written { text.new
-        ≡ text.old
-        ++ (word.now ++ texts.leaf_on cluster.now leaf source ++ codes " " ++ texts.node_name cluster.now target) }
-    ensures size { length text.new ≤ length text.old + 800 }
+) -> Result<(), NoMemory>
+    ensures text { OnOk result (T.kept text.new ≡ T.more (T.kept text.old)
+        (word.now ++ texts.leaf_on cluster.now leaf source ++ codes " " ++ texts.node_name cluster.now target)) }
+    ensures fails { OnErr result T.may_fail }
 {
-    put_on(text, cluster, word, leaf, source);
-    put_node(text, cluster, b" ", target);
+    put_on(text, cluster, word, leaf, source)?;
+    text.put(b" ")?;
+    text.put(node_name(cluster, target as usize))
+}
+
+/// What a monitor is, with its interval in milliseconds behind it.
+fn put_monitor<T: LineText>(
+    text: &mut T,
+    cluster: &Cluster,
+    leaf: LeafId,
+    node: NodeId,
+    interval_ms: u32,
+) -> Result<(), NoMemory>
+    ensures text { OnOk result (T.kept text.new ≡ T.more (T.kept text.old)
+        (codes "monitor " ++ texts.leaf_on cluster.now leaf node ++ codes " " ++ decimal interval_ms)) }
+    ensures fails { OnErr result T.may_fail }
+{
+    put_on(text, cluster, b"monitor ", leaf, node)?;
+    text.put(b" ")?;
+    put_number(text, interval_ms as u64)
 }
 
 /// What an action does: its word, its leaf and its nodes. A monitor has its interval behind them.
-fn put_action(text: &mut LineBuf, cluster: &Cluster, action: Action)
-    requires names { HasShortNames cluster.now }
-    requires room { length text.old ≤ 100 }
-    ensures written { text.new ≡ text.old ++ texts.action_text cluster.now action }
-    ensures size { length text.new ≤ length text.old + 800 }
+pub(crate) fn put_action<T: LineText>(
+    text: &mut T,
+    cluster: &Cluster,
+    action: Action,
+) -> Result<(), NoMemory>
+    ensures text { OnOk result (T.kept text.new ≡ T.more (T.kept text.old) (texts.action_text cluster.now action)) }
+    ensures fails { OnErr result T.may_fail }
 {
     match action {
         Action::Fence { node } => put_node(text, cluster, b"fence ", node),
@@ -152,43 +156,43 @@ fn put_action(text: &mut LineBuf, cluster: &Cluster, action: Action)
 }
 
 /// An action has ended with the code.
-fn put_end(text: &mut LineBuf, number: u32, code: u8)
-    requires room { length text.old ≤ 100 }
-    ensures written { text.new ≡ text.old ++ (codes "end " ++ decimal number ++ codes " " ++ decimal code) }
-    ensures size { length text.new ≤ length text.old + 800 }
+fn put_end<T: LineText>(text: &mut T, number: u32, code: u8) -> Result<(), NoMemory>
+    ensures text { OnOk result (T.kept text.new
+        ≡ T.more (T.kept text.old) (codes "end " ++ decimal number ++ codes " " ++ decimal code)) }
+    ensures fails { OnErr result T.may_fail }
 {
-    put_numbered(text, b"end ", number as u64);
-    put_numbered(text, b" ", code as u64);
+    put_numbered(text, b"end ", number as u64)?;
+    text.put(b" ")?;
+    put_number(text, code as u64)
 }
 
 /// What a recurring monitor has found.
-fn put_report(
-    text: &mut LineBuf,
+fn put_report<T: LineText>(
+    text: &mut T,
     cluster: &Cluster,
     node: NodeId,
     leaf: LeafId,
     interval_ms: u32,
     code: u8,
-)
-    requires names { HasShortNames cluster.now }
-    requires room { length text.old ≤ 100 }
-    ensures written { text.new
-        ≡ text.old ++ (codes "report " ++ texts.node_name cluster.now node ++ codes " " ++ leaf_name cluster.now leaf
-        ++ codes " " ++ decimal interval_ms ++ codes " " ++ decimal code) }
-    ensures size { length text.new ≤ length text.old + 800 }
+) -> Result<(), NoMemory>
+    ensures text { OnOk result (T.kept text.new ≡ T.more (T.kept text.old)
+        (codes "report " ++ texts.node_name cluster.now node ++ codes " " ++ leaf_name cluster.now leaf
+        ++ codes " " ++ decimal interval_ms ++ codes " " ++ decimal code)) }
+    ensures fails { OnErr result T.may_fail }
 {
-    put_node(text, cluster, b"report ", node);
-    put_leaf(text, cluster, b" ", leaf);
-    put_numbered(text, b" ", interval_ms as u64);
-    put_numbered(text, b" ", code as u64);
+    put_node(text, cluster, b"report ", node)?;
+    text.put(b" ")?;
+    text.put(cluster.leaf_name(leaf))?;
+    text.put(b" ")?;
+    put_number(text, interval_ms as u64)?;
+    text.put(b" ")?;
+    put_number(text, code as u64)
 }
 
 /// An answer, as a result line says it.
-fn put_answer(text: &mut LineBuf, cluster: &Cluster, answer: Answer)
-    requires names { HasShortNames cluster.now }
-    requires room { length text.old ≤ 100 }
-    ensures written { text.new ≡ text.old ++ texts.answer_text cluster.now answer }
-    ensures size { length text.new ≤ length text.old + 800 }
+fn put_answer<T: LineText>(text: &mut T, cluster: &Cluster, answer: Answer) -> Result<(), NoMemory>
+    ensures text { OnOk result (T.kept text.new ≡ T.more (T.kept text.old) (texts.answer_text cluster.now answer)) }
+    ensures fails { OnErr result T.may_fail }
 {
     match answer {
         Answer::End { number, code } => put_end(text, number, code),
@@ -208,90 +212,99 @@ fn put_answer(text: &mut LineBuf, cluster: &Cluster, answer: Answer)
 }
 
 /// Why a leaf is left as it is.
-fn put_pinned(text: &mut LineBuf, cluster: &Cluster, leaf: LeafId, pin: Pin)
-    requires names { HasShortNames cluster.now }
-    requires room { length text.old ≤ 100 }
-    ensures written { text.new
-        ≡ text.old ++ (codes "pinned " ++ leaf_name cluster.now leaf ++ codes " " ++ texts.pin_text cluster.now pin) }
-    ensures size { length text.new ≤ length text.old + 800 }
+fn put_pinned<T: LineText>(
+    text: &mut T,
+    cluster: &Cluster,
+    leaf: LeafId,
+    pin: Pin,
+) -> Result<(), NoMemory>
+    ensures text { OnOk result (T.kept text.new ≡ T.more (T.kept text.old)
+        (codes "pinned " ++ leaf_name cluster.now leaf ++ codes " " ++ texts.pin_text cluster.now pin)) }
+    ensures fails { OnErr result T.may_fail }
 {
-    put_leaf(text, cluster, b"pinned ", leaf);
-    match pin {
-        Pin::Unmanaged => text.put(b" unmanaged"),
-        Pin::Blocked => text.put(b" blocked"),
-    }
+    text.put(b"pinned ")?;
+    text.put(cluster.leaf_name(leaf))?;
+    text.put(b" ")?;
+    text.put(pin_word(pin))
 }
 
 /// Where a leaf goes.
-fn put_goal(text: &mut LineBuf, cluster: &Cluster, leaf: LeafId, node: NodeId, target: Target)
-    requires names { HasShortNames cluster.now }
-    requires room { length text.old ≤ 100 }
-    ensures written { text.new
-        ≡ text.old
-        ++ (codes "target " ++ texts.leaf_on cluster.now leaf node ++ codes " " ++ texts.target_text cluster.now target) }
-    ensures size { length text.new ≤ length text.old + 800 }
+fn put_goal<T: LineText>(
+    text: &mut T,
+    cluster: &Cluster,
+    leaf: LeafId,
+    node: NodeId,
+    target: Target,
+) -> Result<(), NoMemory>
+    ensures text { OnOk result (T.kept text.new ≡ T.more (T.kept text.old)
+        (codes "target " ++ texts.leaf_on cluster.now leaf node ++ codes " " ++ texts.target_text cluster.now target)) }
+    ensures fails { OnErr result T.may_fail }
 {
-    put_on(text, cluster, b"target ", leaf, node);
-    match target {
-        Target::Nowhere => text.put(b" nowhere"),
-        Target::Started => text.put(b" started"),
-        Target::Promoted => text.put(b" promoted"),
-    }
+    put_on(text, cluster, b"target ", leaf, node)?;
+    text.put(b" ")?;
+    text.put(target_word(target))
 }
 
-/// The rule that holds a leaf back.
-fn put_held(text: &mut LineBuf, id: &Name)
-    requires name { is_name id.now ≡ true }
-    requires room { length text.old ≤ 700 }
-    ensures written { text.new ≡ text.old ++ (codes " Held " ++ id.now) }
-    ensures size { length text.new ≤ length text.old + 270 }
+/// A reason why a leaf has no target.
+fn put_reason<T: LineText>(text: &mut T, reason: &NoReason) -> Result<(), NoMemory>
+    ensures text { OnOk result ((c : ClusterOf) → T.kept text.new ≡ T.more (T.kept text.old) (texts.reason_text c reason.now)) }
+    ensures fails { OnErr result T.may_fail }
 {
-    text.put(b" Held ");
-    text.put(short_id(id));
+    match reason {
+        NoReason::NoCopies => text.put(b"NoCopies"),
+        NoReason::Stopped => text.put(b"Stopped"),
+        NoReason::OnFail => text.put(b"OnFail"),
+        NoReason::StopAll => text.put(b"StopAll"),
+        NoReason::NoQuorum => text.put(b"NoQuorum"),
+        NoReason::NoNode => text.put(b"NoNode"),
+        NoReason::Held(id) => {
+            text.put(b"Held ")?;
+            text.put(id.bytes())
+        }
+    }
 }
 
 /// Why a leaf has no target.
-fn put_lacking(text: &mut LineBuf, cluster: &Cluster, leaf: LeafId, reason: &NoReason)
-    requires names { HasShortNames cluster.now }
-    requires named { IsReasonNamed reason.now }
-    requires room { length text.old ≤ 100 }
-    ensures written { text.new
-        ≡ text.old
-        ++ (codes "none " ++ leaf_name cluster.now leaf ++ codes " " ++ texts.reason_text cluster.now reason.now) }
-    ensures size { length text.new ≤ length text.old + 800 }
+fn put_lacking<T: LineText>(
+    text: &mut T,
+    cluster: &Cluster,
+    leaf: LeafId,
+    reason: &NoReason,
+) -> Result<(), NoMemory>
+    ensures text { OnOk result (T.kept text.new ≡ T.more (T.kept text.old)
+        (codes "none " ++ leaf_name cluster.now leaf ++ codes " " ++ texts.reason_text cluster.now reason.now)) }
+    ensures fails { OnErr result T.may_fail }
 {
-    put_leaf(text, cluster, b"none ", leaf);
-    match reason {
-        NoReason::NoCopies => text.put(b" NoCopies"),
-        NoReason::Stopped => text.put(b" Stopped"),
-        NoReason::OnFail => text.put(b" OnFail"),
-        NoReason::StopAll => text.put(b" StopAll"),
-        NoReason::NoQuorum => text.put(b" NoQuorum"),
-        NoReason::NoNode => text.put(b" NoNode"),
-        NoReason::Held(id) => put_held(text, id),
-    }
+    text.put(b"none ")?;
+    text.put(cluster.leaf_name(leaf))?;
+    text.put(b" ")?;
+    put_reason(text, reason)
 }
 
 /// An action begins.
-fn put_begin(text: &mut LineBuf, cluster: &Cluster, number: u32, action: Action)
-    requires names { HasShortNames cluster.now }
-    requires room { length text.old ≤ 30 }
-    ensures written { text.new
-        ≡ text.old ++ (codes "begin " ++ decimal number ++ codes " " ++ texts.action_text cluster.now action) }
-    ensures size { length text.new ≤ length text.old + 900 }
+fn put_begin<T: LineText>(
+    text: &mut T,
+    cluster: &Cluster,
+    number: u32,
+    action: Action,
+) -> Result<(), NoMemory>
+    ensures text { OnOk result (T.kept text.new ≡ T.more (T.kept text.old)
+        (codes "begin " ++ decimal number ++ codes " " ++ texts.action_text cluster.now action)) }
+    ensures fails { OnErr result T.may_fail }
 {
-    put_numbered(text, b"begin ", number as u64);
-    text.put(b" ");
-    put_action(text, cluster, action);
+    put_numbered(text, b"begin ", number as u64)?;
+    text.put(b" ")?;
+    put_action(text, cluster, action)
 }
 
 /// A line without its line feed.
-fn put_words(text: &mut LineBuf, cluster: &Cluster, what: &RunLineRef<'_>)
-    requires names { HasShortNames cluster.now }
-    requires named { HasName what.now }
-    requires room { length text.old ≤ 30 }
-    ensures written { text.new ++ codes "\n" ≡ text.old ++ texts.run_line cluster.now (lent_line what.now) }
-    ensures size { length text.new ≤ length text.old + 900 }
+fn put_words<T: LineText>(
+    text: &mut T,
+    cluster: &Cluster,
+    what: &RunLineRef<'_>,
+) -> Result<(), NoMemory>
+    ensures text { OnOk result (T.more (T.kept text.new) (codes "\n") ≡ T.more (T.kept text.old) (texts.run_line cluster.now (lent_line what.now))) }
+    ensures fails { OnErr result T.may_fail }
 {
     match *what {
         RunLineRef::Transition(number) => put_numbered(text, b"transition ", number as u64),
@@ -306,6 +319,19 @@ fn put_words(text: &mut LineBuf, cluster: &Cluster, what: &RunLineRef<'_>)
     }
 }
 
+/// The line of a run, with its line feed.
+pub(crate) fn put_line<T: LineText>(
+    text: &mut T,
+    cluster: &Cluster,
+    line: &RunLineRef<'_>,
+) -> Result<(), NoMemory>
+    ensures text { OnOk result (T.kept text.new ≡ T.more (T.kept text.old) (texts.run_line cluster.now (lent_line line.now))) }
+    ensures fails { OnErr result T.may_fail }
+{
+    put_words(text, cluster, line)?;
+    text.put(b"\n")
+}
+
 /// Writes the line of a run, with its line feed, in place of what the buffer has. It takes no memory.
 ///
 /// It asks for names of at most 256 bytes, as a valid cluster has (`valid_clusters_have_short_names`), and that the id
@@ -316,7 +342,36 @@ pub fn write_line(cluster: &Cluster, line: &RunLineRef<'_>, text: &mut LineBuf)
     requires reason { HasName line.now }
     ensures { text.new ≡ texts.run_line cluster.now (lent_line line.now) }
 {
+    line_is_short(line);
     text.clear();
-    put_words(text, cluster, line);
-    text.put(b"\n");
+    match put_line(text, cluster, line) {
+        Ok(()) => {}
+        Err(_) => unreachable!(),
+    }
+}
+
+/// `refused LINE CAUSE`, with its line feed.
+fn put_refusal<T: LineText>(text: &mut T, line: u32, cause: &str) -> Result<(), NoMemory>
+    ensures text { OnOk result (T.kept text.new ≡ T.more (T.kept text.old)
+        (codes "refused " ++ decimal line ++ codes " " ++ cause.now ++ codes "\n")) }
+    ensures fails { OnErr result T.may_fail }
+{
+    put_numbered(text, b"refused ", line as u64)?;
+    text.put(b" ")?;
+    text.put(cause.as_bytes())?;
+    text.put(b"\n")
+}
+
+/// Writes `refused LINE CAUSE`, with its line feed, in place of what the buffer has: the last line of a run that asks for a
+/// line which isn't read. It takes no memory. It asks for the name of a cause of at most 100 bytes. Rule of this project.
+pub fn write_refusal(line: u32, cause: &str, text: &mut LineBuf)
+    requires { length cause.now ≤ 100 }
+    ensures { text.new ≡ codes "refused " ++ decimal line ++ codes " " ++ cause.now ++ codes "\n" }
+{
+    number_is_short(line as u64);
+    text.clear();
+    match put_refusal(text, line, cause) {
+        Ok(()) => {}
+        Err(_) => unreachable!(),
+    }
 }

@@ -1,36 +1,19 @@
 //! The text of a run that is kept.
 
-ghost use Rattle.std.specs.Prelude.{◌≡◌, ◌<◌, ◌+◌, ◌^◌, ◌++◌, ◌∷◌, [], ℕ, drop, length, take, IfOk, IfSome, MatchOption, OnOk};
+ghost use Rattle.std.specs.Prelude.{◌≡◌, ◌<◌, ◌+◌, ◌^◌, ◌++◌, ◌∷◌, [], ℕ, drop, length, take, IfOk, MatchOption, OnOk};
 ghost use Rattle.std.specs.List.{flat_map};
 ghost use Rattle.cluster_types.specs.declared.cluster.Cluster.{Cluster as ClusterOf};
 ghost use Rattle.cluster_types.specs.declared.run.RunLine.TheVariants as line;
 ghost use Rattle.cluster_types.specs.Texts as texts;
 ghost use Rattle.cluster_types.specs.Valid.{KeepsLimits};
-ghost use Rattle.trace_text.specs.RunLines.{HasName, HasShortNames, lent_line};
+ghost use Rattle.trace_text.specs.RunLines.{lent_line};
 
-use crate::line_buf::LineBuf;
 use crate::run_line_ref::RunLineRef;
-use crate::run_lines::write_line;
-use crate::target_lines::push_targets;
+use crate::run_lines::put_line;
+use crate::target_walk::push_targets;
 use cluster_types::{Action, Answer, Cluster, Event, Op, Outcome, Passed, PassedEnd, Run};
 use faults::NoMemory;
 use std::alloc::Global;
-
-/// The line of a run. The buffer serves for it.
-fn push_run_line(
-    text: &mut Vec<u8>,
-    buf: &mut LineBuf,
-    cluster: &Cluster,
-    line: &RunLineRef<'_>,
-) -> Result<(), NoMemory>
-    requires names { HasShortNames cluster.now }
-    requires reason { HasName line.now }
-    ensures { OnOk result (text.new.items ≡ text.old.items ++ texts.run_line cluster.now (lent_line line.now)) }
-{
-    write_line(cluster, line, buf);
-    text.extend_from_slice(buf.as_slice())?;
-    Ok(())
-}
 
 /// What an end with an exit code answers: that the action of this number has ended, or what a recurring monitor has
 /// found.
@@ -62,7 +45,6 @@ fn answer_of_end(number: u32, action: Action, code: u8) -> Answer
 fn line_of_event(event: Event) -> Option<RunLineRef<'static>>
     ensures lines { MatchOption result (texts.event_lines event ≡ [])
         (λ lent. texts.event_lines event ≡ lent_line lent ∷ []) }
-    ensures named { IfSome result (λ lent. HasName lent) }
 {
     let answer = match event {
         Event::Begin { number, action } => return Some(RunLineRef::Begin(number, action)),
@@ -92,35 +74,23 @@ fn line_of_event(event: Event) -> Option<RunLineRef<'static>>
 }
 
 /// The line of an event, if it has one.
-fn push_event(
-    text: &mut Vec<u8>,
-    buf: &mut LineBuf,
-    cluster: &Cluster,
-    event: Event,
-) -> Result<(), NoMemory>
-    requires { HasShortNames cluster.now }
+fn push_event(text: &mut Vec<u8>, cluster: &Cluster, event: Event) -> Result<(), NoMemory>
     ensures { OnOk result (text.new.items
         ≡ text.old.items ++ flat_map (texts.run_line cluster.now) (texts.event_lines event)) }
 {
     match line_of_event(event) {
-        Some(line) => push_run_line(text, buf, cluster, &line),
+        Some(line) => put_line(text, cluster, &line),
         None => Ok(()),
     }
 }
 
 /// The lines of some events.
-fn push_events(
-    text: &mut Vec<u8>,
-    buf: &mut LineBuf,
-    cluster: &Cluster,
-    events: &[Event],
-) -> Result<(), NoMemory>
-    requires { HasShortNames cluster.now }
+fn push_events(text: &mut Vec<u8>, cluster: &Cluster, events: &[Event]) -> Result<(), NoMemory>
     ensures { OnOk result (text.new.items
         ≡ text.old.items ++ flat_map (texts.run_line cluster.now) (flat_map texts.event_lines events.now)) }
 {
     for event in events {
-        push_event(text, buf, cluster, *event)?;
+        push_event(text, cluster, *event)?;
     }
     Ok(())
 }
@@ -138,18 +108,16 @@ fn between(events: &[Event], from: usize, to: usize) -> &[Event]
 /// How a transition ended, if it did.
 fn push_end(
     text: &mut Vec<u8>,
-    buf: &mut LineBuf,
     cluster: &Cluster,
     number: u32,
     end: PassedEnd,
 ) -> Result<(), NoMemory>
-    requires { HasShortNames cluster.now }
     ensures { OnOk result (text.new.items
         ≡ text.old.items ++ flat_map (texts.run_line cluster.now) (texts.end_lines cluster.now number end)) }
 {
     match end {
-        PassedEnd::Complete => push_run_line(text, buf, cluster, &RunLineRef::Complete(number)),
-        PassedEnd::Aborted => push_run_line(text, buf, cluster, &RunLineRef::Aborted(number)),
+        PassedEnd::Complete => put_line(text, cluster, &RunLineRef::Complete(number)),
+        PassedEnd::Aborted => put_line(text, cluster, &RunLineRef::Aborted(number)),
         PassedEnd::Cut => Ok(()),
     }
 }
@@ -157,19 +125,17 @@ fn push_end(
 /// The lines of a transition: its targets, what happened, and how it ended.
 fn push_passed(
     text: &mut Vec<u8>,
-    buf: &mut LineBuf,
     cluster: &Cluster,
     events: &[Event],
     number: u32,
     passed: &Passed,
 ) -> Result<(), NoMemory>
-    requires names { HasShortNames cluster.now }
     requires limits { KeepsLimits cluster.now }
     ensures { OnOk result (text.new.items
         ≡ text.old.items
         ++ flat_map (texts.run_line cluster.now) (texts.passed_lines cluster.now events.now number passed.now)) }
 {
-    push_run_line(text, buf, cluster, &RunLineRef::Transition(number))?;
+    put_line(text, cluster, &RunLineRef::Transition(number))?;
     push_targets(
         text,
         cluster,
@@ -179,11 +145,10 @@ fn push_passed(
     )?;
     push_events(
         text,
-        buf,
         cluster,
         between(events, passed.begins_at as usize, passed.ends_at as usize),
     )?;
-    push_end(text, buf, cluster, number, passed.end)?;
+    push_end(text, cluster, number, passed.end)?;
     Ok(())
 }
 
@@ -200,25 +165,22 @@ fn begin_of(events: &[Event], passed: &[Passed]) -> usize
 /// The lines of a transition, and of what came between it and the next of those after it.
 fn push_first(
     text: &mut Vec<u8>,
-    buf: &mut LineBuf,
     cluster: &Cluster,
     events: &[Event],
     number: u32,
     passed: &Passed,
     after: &[Passed],
 ) -> Result<(), NoMemory>
-    requires names { HasShortNames cluster.now }
     requires limits { KeepsLimits cluster.now }
     ensures { OnOk result (text.new.items ≡ text.old.items
         ++ flat_map (texts.run_line cluster.now) (texts.passed_lines cluster.now events.now number passed.now
         ++ flat_map texts.event_lines
         (texts.between passed.now.ends_at (texts.begin_of cluster.now events.now after.now) events.now))) }
 {
-    push_passed(text, buf, cluster, events, number, passed)?;
+    push_passed(text, cluster, events, number, passed)?;
     let next = begin_of(events, after);
     push_events(
         text,
-        buf,
         cluster,
         between(events, passed.ends_at as usize, next),
     )?;
@@ -228,21 +190,19 @@ fn push_first(
 /// The text of a run: of each transition its lines, and behind them the answers that came between it and the next (rule
 /// of this project). Without a line `unexpected`, which is no part of a run.
 ///
-/// It asks for a cluster within the limits, of which each name has at most 256 bytes, and for fewer than 4,294,967,295
-/// transitions. `NoMemory` comes when memory runs out.
+/// It asks for a cluster within the limits, and for fewer than 4,294,967,295 transitions. `NoMemory` comes when memory runs
+/// out.
 pub fn run_text(alloc: Global, cluster: &Cluster, run: &Run) -> Result<Vec<u8>, NoMemory>
-    requires names { HasShortNames cluster.now }
     requires limits { KeepsLimits cluster.now }
     requires numbers { length run.now.passed + 1 < 2 ^ 32 }
     ensures { IfOk result (λ text. text.items ≡ texts.run_text cluster.now run.now) }
 {
     let mut text = Vec::new(alloc);
-    let mut buf = LineBuf::new();
     let events = run.journal.events.as_slice();
     let mut left = run.passed.as_slice();
     let mut number = 1;
     while let Some((passed, after)) = left.split_first() {
-        push_first(&mut text, &mut buf, cluster, events, number, passed, after)?;
+        push_first(&mut text, cluster, events, number, passed, after)?;
         number += 1;
         left = after;
     }

@@ -6,7 +6,7 @@ ghost use Rattle.cluster_types.specs.Texts as texts;
 ghost use Rattle.cluster_types.specs.Valid.{KeepsLimits};
 
 use crate::names::push_leaf_on;
-use crate::target_lines::push_targets;
+use crate::target_walk::push_targets;
 use cluster_types::{Cluster, Decided, Decision, LeafId, Placed};
 use faults::NoMemory;
 use score::Score;

@@ -1,14 +1,19 @@
 //! The target lines, one by one.
 
-ghost use Rattle.std.specs.Prelude.{◌≡◌, ◌∷◌, ◌<◌, [], true, ℕ, Some, List, IfSome, MatchOption, length, slice_get};
+ghost use Rattle.std.specs.Prelude.{◌≡◌, ◌∷◌, ◌++◌, ◌<◌, [], true, ℕ, Some, List, IfSome, MatchOption, OnOk, length, slice_get};
+ghost use Rattle.std.specs.List.{flat_map};
 ghost use Rattle.cluster_types.specs.declared.placement.NoReason.TheVariants.{Held};
+ghost use Rattle.cluster_types.specs.Tables.{targets_of};
+ghost use Rattle.cluster_types.specs.Texts as texts;
 ghost use Rattle.cluster_types.specs.Valid.{KeepsLimits};
 ghost use Rattle.crm_lex.specs.Names.{is_name};
 ghost use Rattle.trace_text.specs.RunLines.{HasName, lent_line};
-ghost use Rattle.trace_text.specs.TargetWalk.{IsLineFound, lines_from, lines_in, next_place};
+ghost use Rattle.trace_text.specs.TargetWalk.{AreReasonsNamed, IsLineFound, lines_from, lines_in, next_place, target_lines_from};
 
 use crate::run_line_ref::RunLineRef;
-use cluster_types::{Cluster, NodeId, Placed, Target, pin_of};
+use crate::run_lines::put_line;
+use cluster_types::{Cluster, NoReason, NodeId, Pin, Placed, Table, Target, pin_of};
+use faults::NoMemory;
 
 /// What a target line of a leaf says.
 #[derive(Clone, Copy)]
@@ -64,32 +69,62 @@ impl LinePlace {
 }
 
 /// The line at a place, if one stands there.
-fn line_at<'a>(cluster: &Cluster, placed: &'a Placed, place: LinePlace) -> Option<RunLineRef<'a>>
+fn line_at<'a>(
+    cluster: &Cluster,
+    pins: &[Option<Pin>],
+    table: &Table,
+    none: &'a [Option<NoReason>],
+    place: LinePlace,
+) -> Option<RunLineRef<'a>>
     requires limits { KeepsLimits cluster.now }
     requires within { place.leaf < length cluster.now.leaves }
-    requires named { (r : ℕ) (id : List ℕ) → slice_get placed.now.none r ≡ Some (Some (Held id)) → is_name id ≡ true }
-    ensures line { IsLineFound result (lines_in cluster.now placed.now place.leaf place.column) }
-    ensures named { IfSome result HasName }
+    ensures line { IsLineFound result (lines_in cluster.now pins.now (targets_of table.now) none.now place.leaf place.column) }
+    ensures named { AreReasonsNamed none.now → IfSome result HasName }
 {
     let leaf = place.leaf as u32;
     match place.column {
-        LineColumn::Pin => match pin_of(placed.pins.as_slice(), leaf) {
+        LineColumn::Pin => match pin_of(pins, leaf) {
             Some(pin) => Some(RunLineRef::Pinned(leaf, pin)),
             None => None,
         },
         LineColumn::Goal(node) if (node as usize) < cluster.nodes.len() => {
-            match placed.table.target(leaf, node) {
+            match table.target(leaf, node) {
                 Target::Nowhere => None,
                 Target::Started => Some(RunLineRef::Goal(leaf, node, Target::Started)),
                 Target::Promoted => Some(RunLineRef::Goal(leaf, node, Target::Promoted)),
             }
         }
         LineColumn::Goal(_) => None,
-        LineColumn::Reason => match placed.none.as_slice().get(place.leaf) {
+        LineColumn::Reason => match none.get(place.leaf) {
             Some(Some(reason)) => Some(RunLineRef::Lacking(leaf, reason)),
             Some(None) | None => None,
         },
     }
+}
+
+/// The next target line from a place on, which then stands behind it; none where there is no more.
+fn next_line<'a>(
+    cluster: &Cluster,
+    pins: &[Option<Pin>],
+    table: &Table,
+    none: &'a [Option<NoReason>],
+    place: &mut LinePlace,
+) -> Option<RunLineRef<'a>>
+    requires limits { KeepsLimits cluster.now }
+    ensures line { MatchOption result (target_lines_from cluster.now pins.now (targets_of table.now) none.now place.old ≡ [])
+        (λ line. target_lines_from cluster.now pins.now (targets_of table.now) none.now place.old
+        ≡ lent_line line ∷ target_lines_from cluster.now pins.now (targets_of table.now) none.now place.new) }
+    ensures named { AreReasonsNamed none.now → IfSome result HasName }
+{
+    while place.leaf < cluster.leaves.len() {
+        let found = line_at(cluster, pins, table, none, *place);
+        *place = place.behind(cluster);
+        match found {
+            Some(line) => return Some(line),
+            None => {}
+        }
+    }
+    None
 }
 
 /// The next target line from a place on, which then stands behind it; none where there is no more. It takes no memory.
@@ -106,13 +141,30 @@ pub fn next_target_line<'a>(
         (λ line. lines_from cluster.now placed.now place.old ≡ lent_line line ∷ lines_from cluster.now placed.now place.new) }
     ensures named { IfSome result HasName }
 {
-    while place.leaf < cluster.leaves.len() {
-        let found = line_at(cluster, placed, *place);
-        *place = place.behind(cluster);
-        match found {
-            Some(line) => return Some(line),
-            None => {}
-        }
+    next_line(
+        cluster,
+        placed.pins.as_slice(),
+        &placed.table,
+        placed.none.as_slice(),
+        place,
+    )
+}
+
+/// The target lines of all leaves, in their order. It asks for a cluster within the limits. `NoMemory` comes when memory runs out.
+pub fn push_targets(
+    text: &mut Vec<u8>,
+    cluster: &Cluster,
+    pins: &[Option<Pin>],
+    table: &Table,
+    none: &[Option<NoReason>],
+) -> Result<(), NoMemory>
+    requires { KeepsLimits cluster.now }
+    ensures { OnOk result (text.new.items ≡ text.old.items
+        ++ flat_map (texts.run_line cluster.now) (texts.target_lines cluster.now pins.now (targets_of table.now) none.now)) }
+{
+    let mut place = LinePlace::FIRST;
+    while let Some(line) = next_line(cluster, pins, table, none, &mut place) {
+        put_line(text, cluster, &line)?;
     }
-    None
+    Ok(())
 }

@@ -11,6 +11,8 @@ mod memory;
 #[cfg(test)]
 mod replay_live;
 #[cfg(test)]
+mod waiting;
+#[cfg(test)]
 mod words;
 #[cfg(test)]
 mod worlds;

@@ -6,7 +6,7 @@ use Rattle.live_run.proofs.run_writing.put_plan.Given as goal
 
 abbrev pub invariant-loop-line : goal.invariant-loop-line
 invariant-loop-line g l = record {
-  put : IsPut l.cluster (g.W.Sink.written l.fn.sink) (g.W.Sink.written l.sink) (plan_lines l.cluster l.transition l.placed) (lines_from l.cluster l.placed l.place);
+  put : IsPut l.cluster l.fn.held l.held (g.W.Sink.written l.fn.sink) (g.W.Sink.written l.sink) (plan_lines l.cluster l.transition l.placed) (lines_from l.cluster l.placed l.place);
   count : g.W.Sink.faults l.fn.sink ≤ g.W.Sink.faults l.sink;
   no_failure : g.W.Sink.counts_only_failures ≡ true → g.W.Sink.faults l.sink ≡ g.W.Sink.faults l.fn.sink;
 }

@@ -12,5 +12,5 @@ returns c =
     let p = c.args.passed.now in
     lines_of_passed (run_line cl) (line.Transition c.args.number) (target_lines cl p.pins (targets_of p.table) p.none)
     (flat_map event_lines (between p.begins_at p.ends_at c.args.events.now)) (end_lines cl c.args.number p.end)
-    c.args.text.now.items c.push_run_line.new.text.items c.push_targets.new.text.items c.push_events.new.text.items
+    c.args.text.now.items c.put_line.new.text.items c.push_targets.new.text.items c.push_events.new.text.items
     c.push_end.new.text.items (search rules) (search rules) (search rules) (search rules)

@@ -1,4 +1,5 @@
 use Rattle.std.proofs.Common.{◌≡◌, ◌≤◌, true, None}
+use Rattle.live_run.specs.AtHand.{HoldsResultLine}
 use Rattle.live_run.specs.Coming.{AreReady}
 use Rattle.live_run.specs.Inner.ComingSteps.{told_coming}
 use Rattle.live_run.specs.Inner.ReadSteps.{HasPassed}
@@ -15,6 +16,7 @@ invariant-loop-came g l = record {
   count : g.S.Source.faults (source_in l.fn.self) ≤ g.S.Source.faults (source_in l.self);
   no_failure : g.S.Source.counts_only_failures ≡ true → g.S.Source.faults (source_in l.self) ≡ g.S.Source.faults (source_in l.fn.self);
   same_source : loan_in l.self ≡ loan_in l.fn.self;
+  first : HoldsResultLine (reader_lines l.fn.self).reading.held → (reader_lines l.self ≡ reader_lines l.fn.self) × (source_in l.self ≡ source_in l.fn.self);
 }
 
 abbrev pub decreases-loop-came : goal.decreases-loop-came

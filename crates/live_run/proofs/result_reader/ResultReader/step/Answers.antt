@@ -7,6 +7,7 @@ use Rattle.live_run.specs.declared.came.Came.TheVariants as came
 use Rattle.live_run.specs.declared.said.Said.{Said}
 use Rattle.live_run.specs.declared.said.Said.TheVariants as said
 use Rattle.live_run.proofs.Bringing.{before_behind, fewer_left, line_brings, long_number, numbers_fit, ready_behind, too_large_brings, too_long_brings}
+use Rattle.live_run.proofs.Held.{line_says_some, never_fails}
 use Rattle.live_run.proofs.Stepping.{end_until, fault_until, line_until, too_large_until, too_long_until}
 use Rattle.live_run.proofs.result_reader.ResultReader.step.Goals as goal
 
@@ -81,3 +82,18 @@ returns-in-TooLarge-clause-until g c = too_large_until c.args.names.now c.args.s
 
 pub returns-in-Failed-clause-until : goal.returns-in-Failed-clause-until
 returns-in-Failed-clause-until g c = fault_until c.args.names.now c.args.self.now.at _ _ _ _ (c.in-Failed.ensures.answered c.requires.going)
+
+-- a line that was held
+
+pub returns-in-Line-clause-unread : goal.returns-in-Line-clause-unread
+returns-in-Line-clause-unread g c h = rw c.take_line.ensures.lines (c.in-Line.ensures.unread h.whole)
+
+pub returns-in-Line-clause-some : goal.returns-in-Line-clause-some
+returns-in-Line-clause-some g c h =
+    rw c.take_line.ensures.came (line_says_some _ _ _ _ h c.args.names.now c.args.self.now.at c.args.self.now.at.line (c.in-Line.ensures.answered c.requires.going))
+
+pub returns-in-Line-clause-at_hand : goal.returns-in-Line-clause-at_hand
+returns-in-Line-clause-at_hand g c h = rw c.take_line.ensures.came (said_no_fault _ _)
+
+pub returns-in-Failed-clause-at_hand : goal.returns-in-Failed-clause-at_hand
+returns-in-Failed-clause-at_hand g c h e = never_fails _ _ _ _ h (c.in-Failed.ensures.answered c.requires.going)

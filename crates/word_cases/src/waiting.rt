@@ -1,0 +1,123 @@
+//! No line is held back while `replay` waits for its input.
+
+ghost use Rattle.std.specs.Prelude.{true, None, Some};
+
+use crate::replay_live::{HEAD, PROBES, RUN};
+use cluster_io::{MemorySink, ReadStep, Sink, Source, WriteStep};
+use sim_core::{Status, run};
+use std::alloc::Global;
+use std::cell::Cell;
+use std::process::Abort;
+
+/// A sink that says how many bytes it has taken, and in how many writes.
+#[derive(Drop)]
+struct Counting<'a> {
+    inner: MemorySink,
+    bytes: &'a Cell<usize>,
+    writes: &'a Cell<usize>,
+}
+
+impl Sink for Counting<'_> {
+    ghost written = { λ s. Some s.inner.held };
+
+    ghost faults = { λ s. s.inner.faults };
+
+    ghost counts_only_failures = { true };
+
+    fn write(&mut self, bytes: &[u8]) -> WriteStep {
+        let step = self.inner.write(bytes);
+        if let WriteStep::Took(count) = step {
+            self.bytes.set(self.bytes.get().saturating_add(count));
+        }
+        self.writes.set(self.writes.get().saturating_add(1));
+        step
+    }
+}
+
+/// A piece of an input, and how many bytes are written before it is asked for.
+type Piece = (&'static str, usize);
+
+/// A source that gives pieces one by one, and sees how much was written before.
+#[derive(Drop)]
+struct Pieces<'a> {
+    left: &'a [Piece],
+    bytes: &'a Cell<usize>,
+    agrees: bool,
+    ended: bool,
+}
+
+impl Source for Pieces<'_> {
+    ghost left = { λ _. None };
+
+    ghost faults = { λ _. 0 };
+
+    ghost counts_only_failures = { true };
+
+    ghost ended = { λ s. s.ended };
+
+    fn read(&mut self, buf: &mut [u8]) -> ReadStep {
+        let Some(((piece, written), more)) = self.left.split_first() else {
+            self.ended = true;
+            return ReadStep::End;
+        };
+        self.agrees = self.agrees && self.bytes.get() == *written;
+        self.left = more;
+        let piece = piece.as_bytes();
+        let count = piece.len().min(buf.len());
+        if count == 0 {
+            self.ended = true;
+            return ReadStep::End;
+        }
+        buf[..count].copy_from_slice(&piece[..count]);
+        ReadStep::Got(count)
+    }
+}
+
+/// The run of these pieces is written whole, in so many writes, and nothing is held back while a piece is asked for.
+fn check_pieces(rt: &impl Abort, alloc: Global, pieces: &[Piece], writes: usize) {
+    let bytes = Cell::new(0);
+    let count = Cell::new(0);
+    let mut source = Pieces {
+        left: pieces,
+        bytes: &bytes,
+        agrees: true,
+        ended: false,
+    };
+    let mut sink = Counting {
+        inner: MemorySink::new(alloc, 1000, 1000, Vec::new(alloc)).expect(rt, "memory"),
+        bytes: &bytes,
+        writes: &count,
+    };
+    let word = "replay".to_string(alloc).expect(rt, "memory");
+    let mut words = Vec::new(alloc);
+    words.push(word).expect(rt, "memory");
+    let status = run(alloc, &words, &mut source, &mut sink);
+    assert!(rt; status == Status::Done && sink.inner.bytes() == RUN.as_bytes());
+    assert!(rt; source.agrees && count.get() == writes);
+}
+
+/// What is written when the answers of both probes are known.
+const START: usize = PROBES.len() + "end 1 7\nend 2 7\nbegin 3 start vip n1\n".len();
+
+#[test]
+fn each_line_is_written_before_its_answer_is_waited_for(rt: HostRuntime) {
+    let pieces = [
+        (HEAD, 0),
+        ("%results\n", 0),
+        ("end 1 7\nend 2", PROBES.len()),
+        (" 7\n", PROBES.len() + "end 1 7\n".len()),
+        ("# a comment\n", START),
+        ("end 3 0\n", START),
+    ];
+    check_pieces(&rt, rt.alloc(), &pieces, 4);
+}
+
+#[test]
+fn lines_leave_together_where_answers_are_at_hand(rt: HostRuntime) {
+    let pieces = [
+        (HEAD, 0),
+        ("%results\n", 0),
+        ("end 1 7\nend 2 7\nend 3 0\n", PROBES.len()),
+    ];
+    check_pieces(&rt, rt.alloc(), &pieces, 2);
+}
