@@ -16,3 +16,6 @@ pub mod Ready
 pub mod Held
 pub mod HeadBringing
 pub mod HeadLines
+pub mod LinesJoined
+pub mod AllRead
+pub mod AllTaken

@@ -23,4 +23,9 @@ pub mod FewLines
 pub mod Exclusive
 pub mod OneFault
 pub mod OwnAnswers
+pub mod TraceSections
+pub mod PlainResults
+pub mod TraceRead
+pub mod ReplayAgain
+pub mod InputAgain
 pub mod WrittenFronts

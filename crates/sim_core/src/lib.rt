@@ -48,7 +48,7 @@ pub use auditing::audit;
 pub use help::{HELP, VERSION};
 pub use laws::{
     summaries_are_unique, there_is_an_end, what_check_writes_is_read_again,
-    what_gen_sums_up_is_a_safe_run, what_replay_writes_is_one_safe_run,
+    what_comes_is_the_input, what_gen_sums_up_is_a_safe_run, what_replay_writes_is_one_safe_run,
     what_world_writes_is_a_safe_run,
 };
 pub use status::Status;

@@ -1,0 +1,36 @@
+-- A run that `replay` has written, in the place of the results that it was written for (rule of this project).
+use Rattle.std.specs.Prelude.{◌≡◌, ℕ, None, List, ◌++◌, codes}
+use Rattle.crm_lex.specs.RawLines.{raw_lines}
+use Rattle.input_reading.specs.declared.input.reading.Head.{Head}
+use Rattle.input_reading.specs.declared.input.reading.Input.{Input}
+use Rattle.sim_core.specs.Replay.{IsBegun, coming_behind}
+
+-- a text is made of whole lines: what stands behind it begins a line of its own
+abbrev pub AreWholeLines : List ℕ → Type 0
+AreWholeLines front = (behind : List ℕ) → raw_lines (front ++ behind) ≡ raw_lines front ++ raw_lines behind
+
+-- the lines that begin the results and a trace
+abbrev pub results_begin : List ℕ
+results_begin = codes "%results\n"
+
+abbrev pub trace_begins : List ℕ
+trace_begins = codes "%trace\n"
+
+-- these lines, result lines behind them, and a trace in the place of those
+abbrev pub with_result_section : List ℕ → List ℕ → List ℕ
+with_result_section front results = (front ++ results_begin) ++ results
+
+abbrev pub with_trace_section : List ℕ → List ℕ → List ℕ
+with_trace_section front trace = (front ++ trace_begins) ++ trace
+
+-- of the input with these result lines behind these lines, the head is read, and ends with the line that begins the results
+pub record IsHeadBefore (front results : List ℕ) (head : Head) (next room : ℕ) : Type 0 where
+  pub whole_lines : AreWholeLines front
+  pub begun : IsBegun (with_result_section front results) (front ++ results_begin) head next room
+
+-- the head of the input is that of this one, and behind it come its answers, and no line that is refused or goes past the limit
+pub record ComesLineByLine (front results : List ℕ) (whole : Input) : Type 0 where
+  pub next : ℕ
+  pub room : ℕ
+  pub before : IsHeadBefore front results whole.head next room
+  pub all : coming_behind (with_result_section front results) (front ++ results_begin) whole.head next room ≡ record { results = whole.results; stop = None }
