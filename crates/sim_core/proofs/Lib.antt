@@ -27,5 +27,4 @@ pub mod TraceSections
 pub mod PlainResults
 pub mod TraceRead
 pub mod ReplayAgain
-pub mod InputAgain
 pub mod WrittenFronts

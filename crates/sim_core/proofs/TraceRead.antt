@@ -26,8 +26,7 @@ use Rattle.input_reading.specs.declared.words.word_cause.WordCause.TheVariants.{
 use Rattle.input_reading.specs.LineWords.{line_word}
 use Rattle.input_reading.specs.Places.{WordsOfLine, word_at}
 use Rattle.input_reading.specs.declared.results.result_lines.ResultLine.{ResultLine}
-use Rattle.input_reading.specs.declared.input.reading.Input.{Input}
-use Rattle.input_reading.specs.Reading.{ReadsInput, configuration_lines, configuration_of, following_lines, head_of, input_of, line_behind, start_of, status_lines, with_cluster, with_results}
+use Rattle.input_reading.specs.Reading.{configuration_lines, configuration_of, head_of, input_of, line_behind, start_of, status_lines, with_cluster, with_results}
 use Rattle.input_reading.specs.Results.{answer_of, result_word, results_of}
 use Rattle.cluster_types.specs.Journals.{moment_of}
 use Rattle.sim_core.proofs.PlainResults.{plain_results}
@@ -284,74 +283,3 @@ module _ (text : List ℕ) (rows : List Line) (head : Head) (h : IsHeadOf rows h
       let status = range_in_front (position_or_len status_line rows + 1) rows (results_mark n ∷ others) in
       let behind = range_behind rows (results_mark n) others in
       rw (configured-is, h.resolves, status, h.made, behind, read) refl
-
--- the front of a head with the line that begins the results is read as that head
-pub start-is : (text : List ℕ) (rows : List Line) (head : Head) (h : IsHeadOf rows head) (n : ℕ) → reads text ≡ Ok (rows ++ results_mark n ∷ []) → start_of text ≡ Ok head
-unfolding start_of
-start-is text rows head h n are =
-    let status = range_in_front (position_or_len status_line rows + 1) rows (results_mark n ∷ []) in
-    let found = configured-is text rows head h n [] are [] refl in
-    rw (found, h.resolves, status, h.made) refl
-
--- what is read of a whole input: its lines, and their sections
-pub lines_of_input : (text : List ℕ) (whole : Input) → ReadsInput text whole → HasStarted text
-unfolding input_of configuration_of
-lines_of_input text whole r =
-    let found = passed_on (configuration_of sections_of text) _ whole r in
-    let words = passed cause.Words (reads text) _ found.gave found.is in
-    let marks = passed cause.Statements (sections_of words.gave) _ found.gave words.goes_on in
-    record { lines = words.gave; are = words.is; placed = (are_marks (misplaced (codes "%results") [] words.gave) _ marks.gave marks.is).none }
-
--- an input has the head of these lines, and the results of those behind the line that begins them
-pub record IsInputOf (rows others : List Line) (whole : Input) : Type 0 where
-  pub head : IsHeadOf rows whole.head
-  pub results : results_of whole.head.cluster (moment_of whole.head.journal.events) others ≡ Ok whole.results
-
-lines_behind : (rows others lines : List Line) (mark : Line) (results_at end : ℕ) (P : List Line → Type 0) → lines ≡ rows ++ mark ∷ others → results_at ≡ length rows
-    → end ≡ length (rows ++ mark ∷ others) → P (slice_range lines (results_at + 1) end) → P others
-lines_behind rows others lines mark results_at end P same at to p =
-    subst P (range_behind rows mark others)
-    (subst (λ (n : ℕ). P (slice_range (rows ++ mark ∷ others) (length rows + 1) n)) to
-    (subst (λ (n : ℕ). P (slice_range (rows ++ mark ∷ others) (n + 1) end)) at (subst (λ (ls : List Line). P (slice_range ls (results_at + 1) end)) same p)))
-
-pub head_of_input : (text : List ℕ) (whole : Input) (rows others : List Line) (mark : Line) → ReadsInput text whole → reads text ≡ Ok (rows ++ mark ∷ others) → list_any results_line rows ≡ false
-    → position_or_len results_line (rows ++ mark ∷ others) ≡ length rows → IsInputOf rows others whole
-unfolding input_of configuration_of with_results
-head_of_input text whole rows others mark r are none last =
-    let found = passed_on (configuration_of sections_of text) _ whole r in
-    let words = passed cause.Words (reads text) _ found.gave found.is in
-    let marks = passed cause.Statements (sections_of words.gave) _ found.gave words.goes_on in
-    let crm = passed cause.Statements (statements_of (configuration_lines marks.gave words.gave)) _ found.gave marks.goes_on in
-    let leaves = passed cause.Leaves (expansion_of crm.gave.statements) _ found.gave crm.goes_on in
-    let made : found.gave ≡ record { lines = words.gave; marks = marks.gave; crm = crm.gave; leaves = leaves.gave } = cc in
-    let goes_on = rw made at found.goes_on in
-    let cluster = passed cause.Cluster (resolution_of leaves.gave crm.gave.statements) _ whole goes_on in
-    let following = following_lines marks.gave words.gave in
-    let head = passed_on (head_of crm.gave cluster.gave (status_lines marks.gave words.gave)) (λ (head : Head). with_results head following) whole cluster.goes_on in
-    let answers = passed cause.Results (results_of head.gave.cluster (moment_of head.gave.journal.events) following) _ whole head.goes_on in
-    let same : record { head = head.gave; results = answers.gave } ≡ whole = same_ok _ whole answers.goes_on in
-    let lines : words.gave ≡ rows ++ mark ∷ others = same_ok words.gave (rows ++ mark ∷ others) (sym words.is ∙ are) in
-    let there = are_marks (misplaced (codes "%results") [] (rows ++ mark ∷ others)) _ marks.gave (subst (λ (ls : List Line). sections_of ls ≡ Ok marks.gave) lines marks.is) in
-    let at : marks.gave.status_at ≡ position_or_len status_line rows
-    = sym (ap (λ (m : SectionMarks). m.status_at) there.same)
-    ∙ (ap (λ (n : ℕ). min (position_or_len status_line (rows ++ mark ∷ others)) n) last ∙ first_in_front status_line rows (mark ∷ others)) in
-    let end : marks.gave.results_at ≡ length rows = sym (ap (λ (m : SectionMarks). m.results_at) there.same) ∙ last in
-    let to : marks.gave.end ≡ length (rows ++ mark ∷ others) = sym (ap (λ (m : SectionMarks). m.end) there.same) in
-    record {
-      head = record {
-        placed = (misplaced_parts (codes "%results") [] rows (mark ∷ others) there.none).0;
-        unended = none;
-        crm = crm.gave;
-        leaves = leaves.gave;
-        cluster = cluster.gave;
-        statements = front_stated rows (mark ∷ others) words.gave marks.gave.status_at crm.gave lines at crm.is;
-        expands = leaves.is;
-        resolves = cluster.is;
-        made = front_made rows (mark ∷ others) words.gave marks.gave.status_at marks.gave.results_at crm.gave cluster.gave head.gave whole.head lines at end
-            (ap (λ (i : Input). i.head) same) head.is;
-      };
-      results =
-          subst (λ (i : Input). results_of i.head.cluster (moment_of i.head.journal.events) others ≡ Ok i.results) same
-          (lines_behind rows others words.gave mark marks.gave.results_at marks.gave.end
-          (λ (ls : List Line). results_of head.gave.cluster (moment_of head.gave.journal.events) ls ≡ Ok answers.gave) lines end to answers.is);
-    }
