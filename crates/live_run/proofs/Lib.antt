@@ -18,4 +18,3 @@ pub mod HeadBringing
 pub mod HeadLines
 pub mod LinesJoined
 pub mod AllRead
-pub mod AllTaken

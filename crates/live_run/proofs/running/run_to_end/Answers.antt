@@ -47,8 +47,8 @@ returns-in-Err-Most-clause-reaches g c =
     most_from c.args.cluster.now c.args.journal (standing_of c.args.outcomes.now).lines.reading (standing_of c.args.outcomes.now)
     (standing_of c.replay_watched.new.outcomes) (writer_cluster c.args.writer.now) c.requires.fresh c.requires.names (g.S.Source.left (outcomes_source c.args.outcomes.now))
     (g.S.Source.left (outcomes_source c.replay_watched.new.outcomes)) (g.W.Sink.written (sink_of c.args.writer.now)) (g.W.Sink.written (sink_of c.replay_watched.new.watcher))
-    (g.W.Sink.written (sink_of c.end_without_memory-in-Err-Most.new.writer)) (writer_held c.replay_watched.new.watcher) (has_course_ended (standing_of c.args.outcomes.now).course) (has_course_ended (standing_of c.replay_watched.new.outcomes).course)
-    c.in-Err-Most.journal _ _ c.end_without_memory-in-Err-Most.result (rw c.in-Err-Most.field-0-is at c.in-Err-Most.ensures.run)
+    (g.W.Sink.written (sink_of c.end_without_memory.new.writer)) (writer_held c.replay_watched.new.watcher) (has_course_ended (standing_of c.args.outcomes.now).course) (has_course_ended (standing_of c.replay_watched.new.outcomes).course)
+    c.in-Err-Most.journal _ _ c.end_without_memory.result (rw c.in-Err-Most.field-0-is at c.in-Err-Most.ensures.run)
 
 pub returns-in-Err-NoMemory-clause-reaches : goal.returns-in-Err-NoMemory-clause-reaches
 returns-in-Err-NoMemory-clause-reaches g c =
