@@ -5,7 +5,9 @@ use Rattle.std.specs.List.{flat_map}
 use Rattle.std.proofs.lemmas.Grind.{flat_map-append}
 use Rattle.crm_lex.specs.declared.line.Line.{Line}
 use Rattle.crm_lex.specs.Reading.{reads}
+use Rattle.cluster_model.specs.Expansion.{expansion_of}
 use Rattle.cluster_model.specs.Resolution.{resolution_of}
+use Rattle.crm_parse.specs.Statements.{statements_of}
 use Rattle.cluster_types.specs.declared.cluster.Cluster.{Cluster}
 use Rattle.cluster_types.specs.declared.journal.Answer.{Answer}
 use Rattle.cluster_types.specs.declared.run.RunLine.{RunLine}
@@ -15,7 +17,7 @@ use Rattle.input_reading.specs.declared.input.cause.InputCause.TheVariants as ca
 use Rattle.input_reading.specs.declared.input.reading.Head.{Head}
 use Rattle.input_reading.specs.declared.input.trace.Trace.{Trace}
 use Rattle.input_reading.specs.declared.run.text.RunTextLine.{RunTextLine}
-use Rattle.input_reading.specs.Reading.{configuration_of, following_lines, head_of, line_behind, most_bytes, status_lines}
+use Rattle.input_reading.specs.Reading.{configuration_lines, configuration_of, following_lines, head_of, line_behind, most_bytes, status_lines}
 use Rattle.input_reading.specs.RunReading.{text_line, read_run_lines, with_run_lines}
 use Rattle.input_reading.specs.Sections.{sections_with_trace}
 use Rattle.input_reading.specs.Traces.{ReadsTrace, trace_of, with_run}
@@ -55,19 +57,19 @@ few_lines : (text : List ℕ) (trace : Trace) → ReadsTrace text trace → leng
 unfolding trace_of configuration_of
 few_lines text trace r =
     let found = passed_on (configuration_of sections_with_trace text) _ trace r in
-    let cluster = passed cause.Cluster (resolution_of found.gave.leaves found.gave.crm.statements) _ trace found.goes_on in
-    let behind = following_lines found.gave.marks found.gave.lines in
-    let head = passed_on (head_of found.gave.crm cluster.gave (status_lines found.gave.marks found.gave.lines)) (λ head. with_run (line_behind found.gave.lines) head behind) trace
-    cluster.goes_on in
-    let run = few_behind (line_behind found.gave.lines) head.gave behind trace head.goes_on in
-    let of_text = passed cause.Words (reads text) _ found.gave found.is in
-    let marks = passed cause.Statements (sections_with_trace of_text.gave) _ found.gave of_text.goes_on in
-    let crm = passed cause.Statements _ _ found.gave marks.goes_on in
-    let leaves = passed cause.Leaves _ _ found.gave crm.goes_on in
-    let same : of_text.gave ≡ found.gave.lines = cc in
-    let all = subst (λ (ls : List Line). length ls ≤ length text) same (few_rows_read text of_text.gave of_text.is) in
-    let part = few_there found.gave.lines (found.gave.marks.results_at + 1) found.gave.marks.end in
-    omega arith
+    let words = passed cause.Words (reads text) _ found.gave found.is in
+    let marks = passed cause.Statements (sections_with_trace words.gave) _ found.gave words.goes_on in
+    let crm = passed cause.Statements (statements_of (configuration_lines marks.gave words.gave)) _ found.gave marks.goes_on in
+    let leaves = passed cause.Leaves (expansion_of crm.gave.statements) _ found.gave crm.goes_on in
+    let made : found.gave ≡ record { lines = words.gave; marks = marks.gave; crm = crm.gave; leaves = leaves.gave } = cc in
+    let goes_on = rw made at found.goes_on in
+    let cluster = passed cause.Cluster (resolution_of leaves.gave crm.gave.statements) _ trace goes_on in
+    let behind = following_lines marks.gave words.gave in
+    let head = passed_on (head_of crm.gave cluster.gave (status_lines marks.gave words.gave)) (λ (head : Head). with_run (line_behind words.gave) head behind) trace cluster.goes_on in
+    let run = few_behind (line_behind words.gave) head.gave behind trace head.goes_on in
+    let all = few_rows_read text words.gave words.is in
+    let part = few_there words.gave (marks.gave.results_at + 1) marks.gave.end in
+    omega (arith, run, all, part)
   where
     few_there : (lines : List Line) (from to : ℕ) → length (slice_range lines from to) ≤ length lines
     few_there lines from to = let a = fewer_taken (to - from) (drop from lines) in let b = fewer_left from lines in omega arith
