@@ -45,6 +45,21 @@ fn tell<V: Watcher>(watcher: &mut V, placed: &Placed) -> [Heard; 5]
     ]
 }
 
+/// A writer is told them.
+fn tell_writer<'s>(
+    cluster: &Cluster,
+    sink: &'s mut MemorySink,
+    held: &'s mut HeldText,
+    placed: &Placed,
+) -> [Heard; 5]
+    requires valid { IsValid cluster.now }
+    requires empty { held.old ≡ [] }
+    requires named { ReasonsHaveNames placed.now }
+{
+    let mut writer = LineWriter::new(cluster, sink, held);
+    tell(&mut writer, placed)
+}
+
 const GO: Heard = Heard::Go;
 
 const STOP: Heard = Heard::Stop;
@@ -80,7 +95,7 @@ fn check_row(rt: &impl Abort, alloc: Global, cluster: &Cluster, placed: &Placed,
     let fails = fails.to_vec(alloc).expect(rt, "memory");
     let mut sink = MemorySink::new(alloc, 1000, *step, fails).expect(rt, "memory");
     let mut held = HeldText::new(alloc).expect(rt, "memory");
-    let said = tell(&mut LineWriter::new(cluster, &mut sink, &mut held), placed);
+    let said = tell_writer(cluster, &mut sink, &mut held, placed);
     assert!(rt; said == [GO, GO, GO, GO, *last] && sink.bytes() == text.as_bytes());
 }
 
