@@ -40,7 +40,9 @@ type Piece = (&'static str, usize);
 /// A source that gives pieces one by one, and sees how much was written before.
 #[derive(Drop)]
 struct Pieces<'a> {
-    left: &'a [Piece],
+    pieces: &'a [Piece],
+    /// How many it has given.
+    given: usize,
     bytes: &'a Cell<usize>,
     agrees: bool,
     ended: bool,
@@ -56,13 +58,13 @@ impl Source for Pieces<'_> {
     ghost ended = { λ s. s.ended };
 
     fn read(&mut self, buf: &mut [u8]) -> ReadStep {
-        let Some(((piece, written), more)) = self.left.split_first() else {
+        let Some((piece, written)) = self.pieces.get(self.given) else {
             self.ended = true;
             return ReadStep::End;
         };
-        self.agrees = self.agrees && self.bytes.get() == *written;
-        self.left = more;
         let piece = piece.as_bytes();
+        self.agrees = self.agrees && self.bytes.get() == *written;
+        self.given = self.given.saturating_add(1);
         let count = piece.len().min(buf.len());
         if count == 0 {
             self.ended = true;
@@ -78,7 +80,8 @@ fn check_pieces(rt: &impl Abort, alloc: Global, pieces: &[Piece], writes: usize)
     let bytes = Cell::new(0);
     let count = Cell::new(0);
     let mut source = Pieces {
-        left: pieces,
+        pieces,
+        given: 0,
         bytes: &bytes,
         agrees: true,
         ended: false,
