@@ -39,7 +39,10 @@ pub fn crm(rt: &impl Abort, alloc: Global, text: &str) -> Crm
             .expect(rt, "memory");
     }
     let crm = parse(alloc, lines.as_slice()).expect(rt, "the statements are read");
-    assert!(rt; crm.statements.len() <= 1_000_000_000, "there are few statements");
+    assert!(rt;
+        crm.statements.len() <= 1_000_000_000,
+        "there are few statements"
+    );
     crm
 }
 
