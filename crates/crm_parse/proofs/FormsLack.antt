@@ -7,6 +7,7 @@ use Rattle.crm_parse.specs.declared.fault.ParseCause.TheVariants.{MissingWord}
 use Rattle.crm_parse.specs.declared.form.Form.{Form}
 use Rattle.crm_parse.specs.declared.form.Form.TheVariants as form
 use Rattle.crm_parse.specs.declared.owner.Owner.TheVariants as owner
+use Rattle.crm_parse.specs.FirstFaults.{MayHave}
 use Rattle.crm_parse.specs.Groups.{clone_at, clone_owner, ends_members, group_at, members_from}
 use Rattle.crm_parse.specs.Node.{node_statement_at}
 use Rattle.crm_parse.specs.Primitive.{agent_of, primitive_at}
@@ -55,7 +56,7 @@ unfolding node_statement_at given_at name_at
 node-ends [] = λ e. inl (further Whatever _ (a_name ∷ []) _ refl tt)
 node-ends (word ∷ words) = node-case word words (before (codes ":") word) refl
 
-pub node-lacks : (words : Words) → node_statement_at words ≡ Err MissingWord → FormLacks node_statement_at words
+pub node-lacks : (words : Words) → node_statement_at words ≡ Err MissingWord → FormLacks (MayHave owner.Node) node_statement_at words
 node-lacks words e = form-lacks owner.Node node_statement_at words (node-ends words) e
 
 -- a primitive
@@ -76,7 +77,7 @@ primitive-ends : (words : Words) → Ends owner.Primitive primitive_at words
 unfolding primitive_at name_at
 primitive-ends words = end-name owner.Primitive primitive_with words (further Whatever _ (a_name ∷ a_name ∷ []) _ refl tt) (λ id rest. primitive-with-end id rest)
 
-pub primitive-lacks : (words : Words) → primitive_at words ≡ Err MissingWord → FormLacks primitive_at words
+pub primitive-lacks : (words : Words) → primitive_at words ≡ Err MissingWord → FormLacks (MayHave owner.Primitive) primitive_at words
 primitive-lacks words e = form-lacks owner.Primitive primitive_at words (primitive-ends words) e
 
 -- a group
@@ -138,7 +139,7 @@ group-ends : (words : Words) → Ends owner.Group group_at words
 unfolding group_at name_at
 group-ends words = end-name owner.Group group_with words (further Whatever _ (a_name ∷ []) _ refl tt) (λ id rest e. group-with-case [] rest id (members_from [] rest) refl e e)
 
-pub group-lacks : (words : Words) → group_at words ≡ Err MissingWord → FormLacks group_at words
+pub group-lacks : (words : Words) → group_at words ≡ Err MissingWord → FormLacks (MayHave owner.Group) group_at words
 group-lacks words e = form-lacks owner.Group group_at words (group-ends words) e
 
 -- a clone
@@ -152,5 +153,5 @@ clone-ends ms words =
     end-name (clone_owner ms) (λ child. described (clone_owner ms) (λ d s. form.Cloned id child ms d s.params s.meta)) rest (further Whatever _ (a_name ∷ []) _ refl tt) (λ child rest.
     described-end (clone_owner ms) (λ d s. form.Cloned id child ms d s.params s.meta) rest))
 
-pub clone-lacks : (ms : Bool) (words : Words) → clone_at ms words ≡ Err MissingWord → FormLacks (clone_at ms) words
+pub clone-lacks : (ms : Bool) (words : Words) → clone_at ms words ≡ Err MissingWord → FormLacks (MayHave (clone_owner ms)) (clone_at ms) words
 clone-lacks ms words e = form-lacks (clone_owner ms) (clone_at ms) words (clone-ends ms words) e
