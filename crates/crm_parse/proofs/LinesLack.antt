@@ -1,6 +1,7 @@
 -- A line that is refused for a missing word ends too early, or a section of it has no pair and stands before another section word.
 use Rattle.std.proofs.Common.{◌≡◌, ◌≢◌, ◌⊎◌, inl, inr, ℕ, Bool, true, false, List, [], ◌∷◌, ◌++◌, Result, Ok, Err, refl, sym, ap, ◌∙◌, subst, append_assoc}
 use Rattle.std.specs.Prelude.{codes}
+use Rattle.std.specs.List.{AllByRecursion}
 use Rattle.std.proofs.lemmas.List.{append-nil}
 use Rattle.faults.specs.Reading.{◌>>=◌}
 use Rattle.crm_parse.specs.declared.draft.Draft.{Draft}
@@ -15,7 +16,7 @@ use Rattle.crm_parse.specs.declared.owner.Owner.{Owner}
 use Rattle.crm_parse.specs.declared.owner.Owner.TheVariants as owner
 use Rattle.crm_parse.specs.declared.owner.SectionWord.{SectionWord}
 use Rattle.crm_parse.specs.Colocation.{colocation_at}
-use Rattle.crm_parse.specs.FirstFaults.{BeginsLine, EndsInBareSection, HasSections, LacksPair, MayHave, clone_has, group_has, node_has, primitive_has}
+use Rattle.crm_parse.specs.FirstFaults.{BeginsLine, EndsInBareSection, HasSections, LacksEnabled, LacksPair, MayHave, clone_has, group_has, node_has, primitive_has}
 use Rattle.crm_parse.specs.Grammar.Lines.{is_clone_word, line_kept, master_word, ms_word, user_word}
 use Rattle.crm_parse.specs.Grammar.Parts.{section_text}
 use Rattle.crm_parse.specs.Groups.{clone_at, clone_owner, group_at}
@@ -29,7 +30,7 @@ use Rattle.crm_parse.specs.Statements.{draft_after, draft_of, keyword_of}
 use Rattle.crm_parse.proofs.CausesKept.{none-keyword}
 use Rattle.crm_parse.proofs.FaultsStay.{same-fault}
 use Rattle.crm_parse.proofs.FormsLack.{clone-lacks, group-lacks, node-lacks, primitive-lacks}
-use Rattle.crm_parse.proofs.GoesFurther.{Continues, GoesFurther, Whatever}
+use Rattle.crm_parse.proofs.GoesFurther.{Continues, GoesFurther, Whatever, lacks-enabled}
 use Rattle.crm_parse.proofs.Grammar.LineRelated.{Begins, a_clone, a_colocation, a_group, a_location, a_master, a_node, a_primitive, an_ms, an_order, begins, is_kept_so, line-is_said, none-said, some_settings}
 use Rattle.crm_parse.proofs.LinesGoFurther.{colocation-further, order-further, settings-further}
 use Rattle.crm_parse.proofs.LocationGoesFurther.{location-further}
@@ -41,7 +42,7 @@ abbrev NoSection : SectionWord → Type 0
 NoSection next = ⊥
 
 ends-only : {A : Type 0} (read : Words → Result A ParseCause) (words : Words) → GoesFurther Whatever (λ more. read (words ++ more)) → FormLacks NoSection read words
-ends-only read words g = form_ends words g.more g.made g.gives
+ends-only read words g = form_ends words g.more g.made g.plain g.gives
 
 -- a section that stands in a statement of this first word
 record StandsIn (word : List ℕ) (next : SectionWord) : Type 0 where
@@ -59,8 +60,8 @@ is-missing (Err why) wrap e = same-fault why MissingWord e
 module _ (before : List DraftStatement) where
   -- the words of a line: they end too early, or its sections lack a pair
   data LineLacks : Words → Type 0 where
-    line_ends : (words more : Words) (d : Draft) → draft_of before (words ++ more) ≡ Ok d → LineLacks words
-    line_lacks : (word : List ℕ) (front : Words) (next : SectionWord) (behind more : Words) (d : Draft) → StandsIn word next → EndsInBareSection front
+    line_ends : (words more : Words) (d : Draft) → AllByRecursion LacksEnabled more → draft_of before (words ++ more) ≡ Ok d → LineLacks words
+    line_lacks : (word : List ℕ) (front : Words) (next : SectionWord) (behind more : Words) (d : Draft) → AllByRecursion LacksEnabled more → StandsIn word next → EndsInBareSection front
         → draft_of before (word ∷ (front ++ more)) ≡ Ok d → ((more : Words) → draft_of before (word ∷ (front ++ section_text next ∷ more)) ≡ Err MissingWord)
         → LineLacks (word ∷ (front ++ section_text next ∷ behind))
 
@@ -76,9 +77,9 @@ module _ (before : List DraftStatement) where
     refuses-line words e = then-ok (keyword_of word) _ k begins ∙ (after words ∙ rw e refl)
 
     lacks-so : (words : Words) → FormLacks May read words → LineLacks (word ∷ words)
-    lacks-so ws (form_ends words more made e) = line_ends (word ∷ words) more (wrap made) (reads-line (words ++ more) made e)
-    lacks-so ws (form_lacks front next behind more made may bare e closed) =
-        line_lacks word front next behind more (wrap made) (stand next may) bare (reads-line (front ++ more) made e) (λ more. refuses-line _ (closed more))
+    lacks-so ws (form_ends words more made l e) = line_ends (word ∷ words) more (wrap made) l (reads-line (words ++ more) made e)
+    lacks-so ws (form_lacks front next behind more made l may bare e closed) =
+        line_lacks word front next behind more (wrap made) l (stand next may) bare (reads-line (front ++ more) made e) (λ more. refuses-line _ (closed more))
 
     line-so : (words : Words) → (read words ≡ Err MissingWord → FormLacks May read words) → draft_after k before (word ∷ words) words ≡ Err MissingWord → LineLacks (word ∷ words)
     line-so words h e = lacks-so words (h (is-missing (read words) wrap (sym (after words) ∙ e)))
@@ -122,18 +123,18 @@ module _ (before : List DraftStatement) where
   line-lacks (word ∷ words) e = keyword-case word words (keyword_of word) refl e
 
   -- words that are read as a statement with more behind them begin a line
-  begins-line : (words more : Words) (d : Draft) → draft_of before (words ++ more) ≡ Ok d → BeginsLine before words
-  begins-line words more d e = record { behind = more; statement = d; says = line-is_said before (words ++ more) d e }
+  begins-line : (words more : Words) (d : Draft) → AllByRecursion LacksEnabled more → draft_of before (words ++ more) ≡ Ok d → BeginsLine before words
+  begins-line words more d l e = record { behind = more; plain = l; statement = d; says = line-is_said before (words ++ more) d e }
 
   pub begins-itself : (words : Words) (d : Draft) → draft_of before words ≡ Ok d → BeginsLine before words
-  begins-itself words d e = begins-line words [] d (subst (λ ws. draft_of before ws ≡ Ok d) (sym (append-nil words)) e)
+  begins-itself words d e = begins-line words [] d tt (subst (λ ws. draft_of before ws ≡ Ok d) (sym (append-nil words)) e)
 
   pub nothing-begins : BeginsLine before []
-  nothing-begins = record { behind = codes "user" ∷ []; statement = draft.Whole (form.Kept (codes "user" ∷ [])); says = line_kept (codes "user") [] user_word }
+  nothing-begins = record { behind = codes "user" ∷ []; plain = lacks-enabled (codes "user" ∷ []) refl; statement = draft.Whole (form.Kept (codes "user" ∷ [])); says = line_kept (codes "user") [] user_word }
 
   lacks-case : (words : Words) → LineLacks words → BeginsLine before words ⊎ LacksPair before words
-  lacks-case ws (line_ends words more d e) = inl (begins-line words more d e)
-  lacks-case ws (line_lacks word front next behind more d stand bare e closed) = inr (record {
+  lacks-case ws (line_ends words more d l e) = inl (begins-line words more d l e)
+  lacks-case ws (line_lacks word front next behind more d l stand bare e closed) = inr (record {
     word = word;
     statement = stand.statement;
     front = front;
@@ -143,7 +144,7 @@ module _ (before : List DraftStatement) where
     has_sections = stand.has;
     may_have = stand.may;
     bare = bare;
-    begins = begins-line (word ∷ front) more d e;
+    begins = begins-line (word ∷ front) more d l e;
     closed = λ more said s. none-said before _ MissingWord said (closed more) s;
   })
 
@@ -152,8 +153,8 @@ module _ (before : List DraftStatement) where
   begins-or-lacks words e = lacks-case words (line-lacks words e)
 
   unless-case : (words behind : Words) (cause : ParseCause) → LineLacks words → cause ≢ MissingWord → draft_of before (words ++ behind) ≡ Err cause → BeginsLine before words
-  unless-case ws behind cause (line_ends words more d e) n r = begins-line words more d e
-  unless-case ws behind cause (line_lacks word front next rest more d stand bare e closed) n r =
+  unless-case ws behind cause (line_ends words more d l e) n r = begins-line words more d l e
+  unless-case ws behind cause (line_lacks word front next rest more d l stand bare e closed) n r =
       let stays = sym (closed (rest ++ behind)) ∙ (ap (λ ws. draft_of before (word ∷ ws)) (sym (append_assoc front (section_text next ∷ rest) behind)) ∙ r) in
       let same : MissingWord ≡ cause = cc in
       absurd (n (sym same))

@@ -19,9 +19,10 @@ use Rattle.crm_parse.specs.Statements.{draft_of}
 abbrev pub LacksEnabled : List ℕ → Type 0
 LacksEnabled word = (value : List ℕ) → word ≢ codes "enabled=" ++ value
 
--- these words begin a line: with some words behind them, or none, they say a statement
+-- these words begin a line: with some words behind them, or none, they say a statement. Those words don't say whether an operation is enabled
 pub record BeginsLine (before : List DraftStatement) (words : Words) : Type 0 where
   pub behind : Words
+  pub plain : AllByRecursion LacksEnabled behind
   pub statement : Draft
   pub says : LineSays before (words ++ behind) statement
 

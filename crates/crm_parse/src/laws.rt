@@ -109,6 +109,12 @@ pub fn a_missing_word_is_missing_at_the_end_or_in_a_section()
         → BeginsLine before words ⊎ LacksPair before words }
 {}
 
+/// A line that says nothing and ends too early is refused for a missing word.
+pub fn a_line_that_ends_too_early_lacks_a_word()
+    ensures { (before : List DraftOf) (words : List (List ℕ)) → words ≢ [] → ((statement : StatementOf) → LineSays before words statement → ⊥)
+        → BeginsLine before words → draft_of before words ≡ Err MissingWord }
+{}
+
 /// A line that is refused for another cause than a missing word has a first faulty word: with some words behind them the words before it say a
 /// statement, and with the faulty one they are refused for this cause, whatever stands behind. Lines that say whether an operation is enabled
 /// are named apart.
