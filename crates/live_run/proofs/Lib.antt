@@ -1,5 +1,6 @@
 pub mod Dues
 pub mod Behind
+pub mod Given
 pub mod Reaching
 pub mod Cuts
 pub mod Fitting
