@@ -19,3 +19,4 @@ pub mod HeadBringing
 pub mod HeadLines
 pub mod LinesJoined
 pub mod AllRead
+pub mod AllTaken
