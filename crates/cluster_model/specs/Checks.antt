@@ -72,6 +72,7 @@ module _ (leaves : Leaves) where
 abbrev pub turns_down : OrderStep × OrderStep → Bool
 turns_down pair = not (is_down pair.0.action) && is_down pair.1.action
 
+-- an order has two steps one after the other of which the second stops or demotes what waits for a start or a promote
 abbrev pub has_unsupported_pair : Form → Bool
 has_unsupported_pair (form.Order id kind steps symmetrical) = list_any turns_down (successive steps)
 has_unsupported_pair _ = false

@@ -46,7 +46,7 @@ module _ (leaves : Leaves) where
   leaf_begun resource what = if is_down what then last_leaf leaves resource else first_leaf leaves resource
 
 module _ (leaves : Leaves) (statements : List Statement) where
-  -- an order of two resources: what the one has done by its action, and what the other begins by its own
+  -- an order of two resources: the other begins its action once the one has done its own
   abbrev pub order_said : List ℕ → OrderKind → Bool → List ℕ → ActionWord → List ℕ → ActionWord → Order
   order_said id kind symmetrical one what other then_what = record {
     id = id;

@@ -8,6 +8,8 @@ use Rattle.crm_parse.specs.declared.fault.ParseCause.TheVariants.{UnknownStateme
 use Rattle.crm_parse.specs.FirstFaults.{BeginsLine, FirstFault, LacksEnabled}
 use Rattle.crm_parse.specs.Reading.{Words}
 use Rattle.crm_parse.specs.Statements.{draft_of}
+use Rattle.crm_parse.specs.Grammar.Lines.{LineSays}
+use Rattle.crm_parse.proofs.Grammar.LineRelated.{no-statement, none-said}
 use Rattle.crm_parse.proofs.LinesStay.{line-stays}
 use Rattle.crm_parse.proofs.LinesLack.{begins-itself, begins-unless, nothing-begins}
 
@@ -81,3 +83,14 @@ module _ (before : List DraftStatement) where
       → FirstFault before words cause
   first-fault [] cause some n l e = absurd (some refl)
   first-fault (word ∷ words) cause some n l e = found [] word words cause n l.1 (nothing-begins before) e
+
+  missing-case : (words behind : Words) (cause : ParseCause) (statement : Draft) → words ≢ [] → AllByRecursion LacksEnabled behind → draft_of before words ≡ Err cause
+      → LineSays before (words ++ behind) statement → (cause ≡ MissingWord) ⊎ (cause ≢ MissingWord) → draft_of before words ≡ Err MissingWord
+  missing-case words behind cause statement some l e s (inl m) = e ∙ ap (λ (c : ParseCause). Err c) m
+  missing-case words behind cause statement some l e s (inr n) = absurd (none-said before (words ++ behind) cause statement (stays-refused words behind cause some n l e) s)
+
+  -- a line that says nothing and begins one that does lacks a word
+  pub ends-too-early : (words : Words) → words ≢ [] → ((statement : Draft) → LineSays before words statement → ⊥) → BeginsLine before words → draft_of before words ≡ Err MissingWord
+  ends-too-early words some silent b =
+      let (cause, e) = no-statement before words silent in
+      missing-case words b.behind cause b.statement some b.plain e b.says (either-missing cause)

@@ -7,6 +7,7 @@ use Rattle.crm_parse.specs.declared.fault.ParseCause.TheVariants.{MissingWord}
 use Rattle.crm_parse.specs.declared.form.Form.{Form}
 use Rattle.crm_parse.specs.declared.form.Form.TheVariants as form
 use Rattle.crm_parse.specs.declared.owner.Owner.TheVariants as owner
+use Rattle.crm_parse.specs.FirstFaults.{MayHave}
 use Rattle.crm_parse.specs.Groups.{clone_at, clone_owner, ends_members, group_at, members_from}
 use Rattle.crm_parse.specs.Node.{node_statement_at}
 use Rattle.crm_parse.specs.Primitive.{agent_of, primitive_at}
@@ -28,7 +29,7 @@ node-named-end : (id : Option (List ℕ)) (words : Words) → Ends owner.Node (n
 unfolding name_at
 node-named-end id words =
     end-name owner.Node (λ name ws. sections_at owner.Node ws >>= (λ sections. Ok (form.Node id name sections.attributes sections.utilization))) words
-    (further Whatever _ (a_name ∷ []) _ refl tt) (λ name rest. sections-end owner.Node (λ sections. form.Node id name sections.attributes sections.utilization) rest)
+    (further Whatever _ (a_name ∷ []) _ refl refl tt) (λ name rest. sections-end owner.Node (λ sections. form.Node id name sections.attributes sections.utilization) rest)
 
 node-id-case : (word : List ℕ) (words : Words) (id : List ℕ) (read : Result (Option (List ℕ)) ParseCause) → before (codes ":") word ≡ Some id → some_name (Some id) ≡ read
     → Ends owner.Node (λ ws. given_at ws >>= (λ got. node_named got.0 got.1)) (word ∷ words)
@@ -52,10 +53,10 @@ node-case word words (Some id) f = node-id-case word words id (some_name (Some i
 
 node-ends : (words : Words) → Ends owner.Node node_statement_at words
 unfolding node_statement_at given_at name_at
-node-ends [] = λ e. inl (further Whatever _ (a_name ∷ []) _ refl tt)
+node-ends [] = λ e. inl (further Whatever _ (a_name ∷ []) _ refl refl tt)
 node-ends (word ∷ words) = node-case word words (before (codes ":") word) refl
 
-pub node-lacks : (words : Words) → node_statement_at words ≡ Err MissingWord → FormLacks node_statement_at words
+pub node-lacks : (words : Words) → node_statement_at words ≡ Err MissingWord → FormLacks (MayHave owner.Node) node_statement_at words
 node-lacks words e = form-lacks owner.Node node_statement_at words (node-ends words) e
 
 -- a primitive
@@ -65,7 +66,7 @@ primitive_with id words =
     (λ d s. form.Primitive id agent d s.params s.meta s.utilization s.operations s.ops) word.1))
 
 primitive-with-end : (id : List ℕ) (words : Words) → Ends owner.Primitive (primitive_with id) words
-primitive-with-end id [] = λ e. inl (further Whatever _ (a_name ∷ []) _ refl tt)
+primitive-with-end id [] = λ e. inl (further Whatever _ (a_name ∷ []) _ refl refl tt)
 primitive-with-end id (word ∷ words) =
     end-behind owner.Primitive next_word_in (λ v ws. agent_of v >>= (λ agent. described owner.Primitive (λ d s. form.Primitive id agent d s.params s.meta s.utilization s.operations s.ops) ws))
     (word ∷ []) word words (λ behind. refl)
@@ -74,9 +75,9 @@ primitive-with-end id (word ∷ words) =
 
 primitive-ends : (words : Words) → Ends owner.Primitive primitive_at words
 unfolding primitive_at name_at
-primitive-ends words = end-name owner.Primitive primitive_with words (further Whatever _ (a_name ∷ a_name ∷ []) _ refl tt) (λ id rest. primitive-with-end id rest)
+primitive-ends words = end-name owner.Primitive primitive_with words (further Whatever _ (a_name ∷ a_name ∷ []) _ refl refl tt) (λ id rest. primitive-with-end id rest)
 
-pub primitive-lacks : (words : Words) → primitive_at words ≡ Err MissingWord → FormLacks primitive_at words
+pub primitive-lacks : (words : Words) → primitive_at words ≡ Err MissingWord → FormLacks (MayHave owner.Primitive) primitive_at words
 primitive-lacks words e = form-lacks owner.Primitive primitive_at words (primitive-ends words) e
 
 -- a group
@@ -136,9 +137,9 @@ group-with-case id words name (Err why) r e = λ f. absurd (members-none [] word
 
 group-ends : (words : Words) → Ends owner.Group group_at words
 unfolding group_at name_at
-group-ends words = end-name owner.Group group_with words (further Whatever _ (a_name ∷ []) _ refl tt) (λ id rest e. group-with-case [] rest id (members_from [] rest) refl e e)
+group-ends words = end-name owner.Group group_with words (further Whatever _ (a_name ∷ []) _ refl refl tt) (λ id rest e. group-with-case [] rest id (members_from [] rest) refl e e)
 
-pub group-lacks : (words : Words) → group_at words ≡ Err MissingWord → FormLacks group_at words
+pub group-lacks : (words : Words) → group_at words ≡ Err MissingWord → FormLacks (MayHave owner.Group) group_at words
 group-lacks words e = form-lacks owner.Group group_at words (group-ends words) e
 
 -- a clone
@@ -148,9 +149,9 @@ clone_with ms id words = name_at words >>= (λ child. described (clone_owner ms)
 clone-ends : (ms : Bool) (words : Words) → Ends (clone_owner ms) (clone_at ms) words
 unfolding clone_at name_at
 clone-ends ms words =
-    end-name (clone_owner ms) (clone_with ms) words (further Whatever _ (a_name ∷ a_name ∷ []) _ refl tt) (λ id rest.
-    end-name (clone_owner ms) (λ child. described (clone_owner ms) (λ d s. form.Cloned id child ms d s.params s.meta)) rest (further Whatever _ (a_name ∷ []) _ refl tt) (λ child rest.
+    end-name (clone_owner ms) (clone_with ms) words (further Whatever _ (a_name ∷ a_name ∷ []) _ refl refl tt) (λ id rest.
+    end-name (clone_owner ms) (λ child. described (clone_owner ms) (λ d s. form.Cloned id child ms d s.params s.meta)) rest (further Whatever _ (a_name ∷ []) _ refl refl tt) (λ child rest.
     described-end (clone_owner ms) (λ d s. form.Cloned id child ms d s.params s.meta) rest))
 
-pub clone-lacks : (ms : Bool) (words : Words) → clone_at ms words ≡ Err MissingWord → FormLacks (clone_at ms) words
+pub clone-lacks : (ms : Bool) (words : Words) → clone_at ms words ≡ Err MissingWord → FormLacks (MayHave (clone_owner ms)) (clone_at ms) words
 clone-lacks ms words e = form-lacks (clone_owner ms) (clone_at ms) words (clone-ends ms words) e

@@ -1,23 +1,44 @@
 -- Words that end too early can be continued: how the steps of a reader go on with more words, where it finds that one is missing.
-use Rattle.std.proofs.Common.{◌≡◌, ◌≢◌, ℕ, Bool, true, false, cond, List, [], ◌∷◌, ◌++◌, Option, Some, None, Result, Ok, Err, refl, sym, ◌∙◌, subst}
+use Rattle.std.proofs.Common.{◌≡◌, ◌≢◌, ℕ, Bool, true, false, cond, List, [], ◌∷◌, ◌++◌, Option, Some, None, Result, Ok, Err, refl, sym, ◌∙◌, subst, take}
+use Rattle.std.specs.Prelude.{codes, not}
+use Rattle.std.specs.List.{AllByRecursion, list_all}
 use Rattle.std.specs.Option.{ok_or}
+use Rattle.std.proofs.lemmas.Bool.{and_parts}
+use Rattle.crm_lex.specs.Names.{is}
 use Rattle.faults.specs.Reading.{◌>>=◌}
 use Rattle.crm_parse.specs.declared.fault.ParseCause.{ParseCause}
 use Rattle.crm_parse.specs.declared.fault.ParseCause.TheVariants.{BadValue, MissingWord}
+use Rattle.crm_parse.specs.FirstFaults.{LacksEnabled}
 use Rattle.crm_parse.specs.Keys.{when}
 use Rattle.crm_parse.specs.Reading.{Words, name_at, name_of, next_word_in}
 use Rattle.crm_parse.proofs.FaultsStay.{Goes, left, same-fault}
 
--- with some words more a reader answers, and of its answer this holds
+-- the word isn't one that says whether an operation is enabled
+abbrev is_other : List ℕ → Bool
+is_other word = not (is (take 8 word) (codes "enabled="))
+
+other-lacks : (word : List ℕ) → is_other word ≡ true → LacksEnabled word
+other-lacks word o value e =
+    let same : is_other (codes "enabled=" ++ value) ≡ true = subst (λ w. is_other w ≡ true) e o in
+    absurd (cc)
+
+pub lacks-enabled : (words : Words) → list_all is_other words ≡ true → AllByRecursion LacksEnabled words
+lacks-enabled [] h = tt
+lacks-enabled (word ∷ words) h =
+    let p = and_parts (is_other word) (list_all is_other words) h in
+    (other-lacks word p.0, lacks-enabled words p.1)
+
+-- with some words more, which don't say whether an operation is enabled, a reader answers, and of its answer this holds
 pub record GoesFurther {T : Type 0} (Ends : T → Type 0) (again : Words → Result T ParseCause) : Type 0 where
   pub more : Words
+  pub plain : AllByRecursion LacksEnabled more
   pub made : T
   pub gives : again more ≡ Ok made
   pub ends : Ends made
 
-pub further : {T : Type 0} (Ends : T → Type 0) (again : Words → Result T ParseCause) (more : Words) (made : T) → again more ≡ Ok made → Ends made
-    → GoesFurther Ends again
-further Ends again more made e h = record { more = more; made = made; gives = e; ends = h }
+pub further : {T : Type 0} (Ends : T → Type 0) (again : Words → Result T ParseCause) (more : Words) (made : T) → again more ≡ Ok made
+    → list_all is_other more ≡ true → Ends made → GoesFurther Ends again
+further Ends again more made e o h = record { more = more; plain = lacks-enabled more o; made = made; gives = e; ends = h }
 
 -- nothing is asked of the answer; no word is left; or none is left behind the words that are kept
 abbrev pub Whatever : {T : Type 0} → T → Type 0
@@ -66,7 +87,7 @@ pub continue-step : {T B : Type 0} (Ends : B → Type 0) (push : Words → T →
     → Continues Ends (read >>= f) (λ more. again more >>= f)
 continue-step Ends push (Ok got) again f g m k e =
     let on = k got refl e in
-    record { more = on.more; made = on.made; gives = rw (g on.more got refl) on.gives; ends = on.ends }
+    record { more = on.more; plain = on.plain; made = on.made; gives = rw (g on.more got refl) on.gives; ends = on.ends }
 continue-step Ends push (Err why) again f g m k e = m (same-fault why MissingWord e)
 
 -- a step that reads no word
@@ -80,7 +101,7 @@ pub further-then : {T B : Type 0} (Stops : T → Type 0) (Ends : B → Type 0) (
     → ((got : T) → Stops got → GoesFurther Ends (λ more. f got)) → GoesFurther Ends (λ more. again more >>= f)
 further-then Stops Ends again f g k =
     let last = k g.made g.ends in
-    record { more = g.more; made = last.made; gives = rw g.gives last.gives; ends = last.ends }
+    record { more = g.more; plain = g.plain; made = last.made; gives = rw g.gives last.gives; ends = last.ends }
 
 -- the last step of a reader
 pub continue-last : {A B : Type 0} (Stops : A → Type 0) (Ends : B → Type 0) (read : Result A ParseCause) (again : Words → Result A ParseCause) (f : A → B)
@@ -88,7 +109,7 @@ pub continue-last : {A B : Type 0} (Stops : A → Type 0) (Ends : B → Type 0) 
 continue-last Stops Ends (Ok x) again f h c e = cc
 continue-last Stops Ends (Err why) again f h c e =
     let on = c (same-fault why MissingWord e) in
-    record { more = on.more; made = f on.made; gives = rw on.gives refl; ends = h on.made on.ends }
+    record { more = on.more; plain = on.plain; made = f on.made; gives = rw on.gives refl; ends = h on.made on.ends }
 
 -- a step that reads one word
 pub continue-word : {A B : Type 0} (Ends : B → Type 0) (read : Words → Result (A × Words) ParseCause) (words : Words) (f : A × Words → Result B ParseCause)
@@ -135,4 +156,4 @@ continue-first Stops Ends (Err why) again f c k n e = further-then Stops Ends ag
 -- readers that answer alike go alike
 pub further-as : {T : Type 0} (Ends : T → Type 0) (again other : Words → Result T ParseCause) → ((more : Words) → other more ≡ again more) → GoesFurther Ends again
     → GoesFurther Ends other
-further-as Ends again other s g = record { more = g.more; made = g.made; gives = s g.more ∙ g.gives; ends = g.ends }
+further-as Ends again other s g = record { more = g.more; plain = g.plain; made = g.made; gives = s g.more ∙ g.gives; ends = g.ends }

@@ -46,15 +46,15 @@ pub colocation-further : (words : Words) → Continues Whatever (colocation_at w
 unfolding colocation_at side_at name_at score_of side_started
 colocation-further words =
     continue-word Whatever name_at words _ (λ more. name-goes MissingWord more words) (name-missing words)
-    (further Whatever _ (a_name ∷ a_score_word ∷ a_name ∷ a_name ∷ []) _ refl tt) (λ id e.
+    (further Whatever _ (a_name ∷ a_score_word ∷ a_name ∷ a_name ∷ []) _ refl refl tt) (λ id e.
     continue-word Whatever next_word_in id.1 _ (λ more. next-goes MissingWord more id.1) (next-missing id.1)
-    (further Whatever _ (a_score_word ∷ a_name ∷ a_name ∷ []) _ refl tt) (λ word e.
+    (further Whatever _ (a_score_word ∷ a_name ∷ a_name ∷ []) _ refl refl tt) (λ word e.
     continue-test Whatever (no_attribute word.0) _ _ (none-attribute word.0) (λ fits e.
     continue-test Whatever (score_of word.0) _ _ (none-score word.0) (λ points e.
     continue-word Whatever side_at word.1 _ (λ more. side-goes MissingWord more word.1) (side-missing word.1)
-    (further Whatever _ (a_name ∷ a_name ∷ []) _ refl tt) (λ dependent e.
+    (further Whatever _ (a_name ∷ a_name ∷ []) _ refl refl tt) (λ dependent e.
     continue-word Whatever side_at dependent.1 _ (λ more. side-goes MissingWord more dependent.1) (side-missing dependent.1)
-    (further Whatever _ (a_name ∷ []) _ refl tt) (λ primary e.
+    (further Whatever _ (a_name ∷ []) _ refl refl tt) (λ primary e.
     λ e. absurd (none-step (no_third primary.1) _ (none-third primary.1) (λ end e. cc) e)))))))
 
 -- an order
@@ -75,9 +75,9 @@ steps-further : (words : Words) → Continues Through (order_steps_at words) (λ
 unfolding order_steps_at with_step read_order_step
 steps-further words =
     continue-word Through (with_step []) words _ (λ more. one_step-goes MissingWord more [] words) (step-missing [] words)
-    (further Through _ (a_name ∷ a_name ∷ []) _ refl refl) (λ first e.
+    (further Through _ (a_name ∷ a_name ∷ []) _ refl refl refl) (λ first e.
     continue-word Through (with_step first.0) first.1 _ (λ more. one_step-goes MissingWord more first.0 first.1) (step-missing first.0 first.1)
-    (further Through _ (a_name ∷ []) _ refl refl) (λ second e.
+    (further Through _ (a_name ∷ []) _ refl refl refl) (λ second e.
     λ e. absurd (steps-none second.0 second.1 e)))
 
 kind-goes : (more rest : Words) (word : List ℕ) → Goes (left more) (kind_at (word ∷ rest)) (kind_at (word ∷ (rest ++ more)))
@@ -94,7 +94,7 @@ symmetrical_of kind make words =
 
 symmetrical-ends : {B : Type 0} (kind : KindWord) (make : Bool → B) (words : Words) → words ≡ [] → GoesFurther Whatever (λ (more : Words). symmetrical_of kind make words)
 unfolding symmetrical_in
-symmetrical-ends kind make [] e = further Whatever _ [] _ refl tt
+symmetrical-ends kind make [] e = further Whatever _ [] _ refl refl tt
 symmetrical-ends kind make (word ∷ words) e = absurd (cc)
 
 symmetrical-none : {B : Type 0} (kind : KindWord) (make : Bool → B) (words : Words) → LacksNone (symmetrical_of kind make words)
@@ -106,9 +106,9 @@ pub order-further : (words : Words) → Continues Whatever (order_at words) (λ 
 unfolding order_at name_at kind_at order_steps_at with_step read_order_step symmetrical_in
 order-further words =
     continue-word Whatever name_at words _ (λ more. name-goes MissingWord more words) (name-missing words)
-    (further Whatever _ (a_name ∷ a_name ∷ a_name ∷ []) _ refl tt) (λ id e.
+    (further Whatever _ (a_name ∷ a_name ∷ a_name ∷ []) _ refl refl tt) (λ id e.
     continue-option Whatever kind_at id.1 _ kind-goes (λ word rest. kind-none (word ∷ rest))
-    (further Whatever _ (a_name ∷ a_name ∷ []) _ refl tt) (λ kind e.
+    (further Whatever _ (a_name ∷ a_name ∷ []) _ refl refl tt) (λ kind e.
     continue-first Through Whatever (order_steps_at kind.1) (λ more. order_steps_at (kind.1 ++ more)) _ (steps-further kind.1)
     (λ steps h. symmetrical-ends kind.0 _ steps.1 h)
     (λ steps. symmetrical-none kind.0 _ steps.1)))
@@ -148,7 +148,7 @@ settings-none what before pairs (word ∷ words) = none-step (with_setting what 
 
 pairs-further : (what : SettingsWord) (before : List DraftStatement) (words : Words)
     → Continues Whatever (settings_pairs what before words) (λ more. settings_pairs what before (words ++ more))
-pairs-further what before [] e = further Whatever _ (a_pair ∷ []) (pair_of_id ∷ []) (rw (setting-taken what before []) refl) tt
+pairs-further what before [] e = further Whatever _ (a_pair ∷ []) (pair_of_id ∷ []) (rw (setting-taken what before []) refl) refl tt
 pairs-further what before (word ∷ words) e = absurd (settings-none what before [] (word ∷ words) e)
 
 set-go-case : (more rest : Words) (word : List ℕ) (pair : Bool) → Goes (left more) (cond pair (Ok (None, word ∷ rest)) (given_at (word ∷ rest)))
@@ -170,5 +170,5 @@ set-none word rest = none-if (is_pair word) (Ok (None, word ∷ rest)) (given_at
 pub settings-further : (what : SettingsWord) (before : List DraftStatement) (words : Words) → Continues Whatever (settings_at what before words) (λ more. settings_at what before (words ++ more))
 unfolding settings_at
 settings-further what before words =
-    continue-option Whatever set_at words _ set-goes set-none (further Whatever _ (a_pair ∷ []) (form.Settings what None (pair_of_id ∷ [])) (rw (setting-taken what before []) refl) tt) (λ set e.
+    continue-option Whatever set_at words _ set-goes set-none (further Whatever _ (a_pair ∷ []) (form.Settings what None (pair_of_id ∷ [])) (rw (setting-taken what before []) refl) refl tt) (λ set e.
     continue-last Whatever Whatever (settings_pairs what before set.1) (λ more. settings_pairs what before (set.1 ++ more)) _ (λ x h. tt) (pairs-further what before set.1))

@@ -42,9 +42,9 @@ discovery-none words =
 place-further : (words : Words) → Continues Whatever (place_at words) (λ more. place_at (words ++ more))
 unfolding place_at name_at score_of
 place-further words =
-    continue-word Whatever next_word_in words _ (λ more. next-goes MissingWord more words) (next-missing words) (further Whatever _ (a_score_word ∷ a_name ∷ []) _ refl tt) (λ word e.
+    continue-word Whatever next_word_in words _ (λ more. next-goes MissingWord more words) (next-missing words) (further Whatever _ (a_score_word ∷ a_name ∷ []) _ refl refl tt) (λ word e.
     continue-test Whatever (score_of word.0) _ _ (none-score word.0) (λ points e.
-    continue-word Whatever name_at word.1 _ (λ more. name-goes MissingWord more word.1) (name-missing word.1) (further Whatever _ (a_name ∷ []) _ refl tt) (λ node e.
+    continue-word Whatever name_at word.1 _ (λ more. name-goes MissingWord more word.1) (name-missing word.1) (further Whatever _ (a_name ∷ []) _ refl refl tt) (λ node e.
     λ e. absurd (none-step (end_at node.1) _ (none-end node.1) (λ end e. cc) e))))
 
 module _ (id resource : List ℕ) (role : Option RoleWord) (discovery : Bool) where
@@ -61,16 +61,16 @@ module _ (id resource : List ℕ) (role : Option RoleWord) (discovery : Bool) wh
   last-further : (words : Words) → Continues Whatever (cond (begins_rule words) (ruled_at id resource role discovery words) (plain_at id resource role discovery words))
       (λ more. cond (begins_rule (words ++ more)) (ruled_at id resource role discovery (words ++ more)) (plain_at id resource role discovery (words ++ more)))
   unfolding plain_at place_at name_at score_of
-  last-further [] = λ e. further Whatever _ (a_score_word ∷ a_name ∷ []) _ refl tt
+  last-further [] = λ e. further Whatever _ (a_score_word ∷ a_name ∷ []) _ refl refl tt
   last-further (word ∷ words) = last-case word words (is word (codes "rule"))
 
 pub location-further : (words : Words) → Continues Whatever (location_at words) (λ more. location_at (words ++ more))
 unfolding location_at name_at resource_at role_at discovery_at plain_at place_at score_of
 location-further words =
     continue-word Whatever name_at words _ (λ more. name-goes MissingWord more words) (name-missing words)
-    (further Whatever _ (a_name ∷ a_name ∷ a_score_word ∷ a_name ∷ []) _ refl tt) (λ id e.
+    (further Whatever _ (a_name ∷ a_name ∷ a_score_word ∷ a_name ∷ []) _ refl refl tt) (λ id e.
     continue-word Whatever resource_at id.1 _ (λ more. resource-goes MissingWord more id.1) (resource-missing id.1)
-    (further Whatever _ (a_name ∷ a_score_word ∷ a_name ∷ []) _ refl tt) (λ resource e.
-    continue-option Whatever role_at resource.1 _ role-goes (λ word rest. role-none (word ∷ rest)) (further Whatever _ (a_score_word ∷ a_name ∷ []) _ refl tt) (λ role e.
-    continue-option Whatever discovery_at role.1 _ discovery-goes (λ word rest. discovery-none (word ∷ rest)) (further Whatever _ (a_score_word ∷ a_name ∷ []) _ refl tt) (λ discovery e.
+    (further Whatever _ (a_name ∷ a_score_word ∷ a_name ∷ []) _ refl refl tt) (λ resource e.
+    continue-option Whatever role_at resource.1 _ role-goes (λ word rest. role-none (word ∷ rest)) (further Whatever _ (a_score_word ∷ a_name ∷ []) _ refl refl tt) (λ role e.
+    continue-option Whatever discovery_at role.1 _ discovery-goes (λ word rest. discovery-none (word ∷ rest)) (further Whatever _ (a_score_word ∷ a_name ∷ []) _ refl refl tt) (λ discovery e.
     last-further id.0 resource.0 role.0 discovery.0 discovery.1))))

@@ -1,13 +1,14 @@
 -- How a form with sections is read that is refused for a missing word: it ends too early, or its sections lack a pair.
 use Rattle.std.proofs.Common.{◌≡◌, ◌⊎◌, inl, inr, ℕ, List, [], ◌∷◌, ◌++◌, Option, Some, None, Result, Ok, Err, refl, sym, ap, ◌∙◌, subst, append_assoc}
 use Rattle.std.specs.Prelude.{codes}
+use Rattle.std.specs.List.{AllByRecursion}
 use Rattle.faults.specs.Reading.{◌>>=◌}
 use Rattle.crm_parse.specs.declared.fault.ParseCause.{ParseCause}
 use Rattle.crm_parse.specs.declared.fault.ParseCause.TheVariants.{MissingWord}
 use Rattle.crm_parse.specs.declared.owner.Owner.{Owner}
 use Rattle.crm_parse.specs.declared.owner.SectionWord.{SectionWord}
 use Rattle.crm_parse.specs.declared.section.Sections.{Sections}
-use Rattle.crm_parse.specs.FirstFaults.{EndsInBareSection, bare_operation, bare_section}
+use Rattle.crm_parse.specs.FirstFaults.{EndsInBareSection, LacksEnabled, MayHave, bare_operation, bare_section}
 use Rattle.crm_parse.specs.Grammar.Parts.{section_text}
 use Rattle.crm_parse.specs.Reading.{Words, name_at, prefixed_at}
 use Rattle.crm_parse.specs.Sections.{sections_at}
@@ -61,6 +62,7 @@ module _ {B : Type 0} (statement : Owner) where
           → GoesFurther Whatever (λ more. first ((head ++ words) ++ more) >>= (λ got. next got.0 got.1)) ⊎ ReadsSections statement (λ ws. first ws >>= (λ got. next got.0 got.1)) (head ++ words)
       found (inl g) = inl (record {
         more = g.more;
+        plain = g.plain;
         made = g.made;
         gives = ap (λ ws. first ws >>= (λ got. next got.0 got.1)) (append_assoc head words g.more)
             ∙ (then-ok (first (head ++ (words ++ g.more))) (λ got. next got.0 got.1) (x, words ++ g.more) (r (words ++ g.more)) ∙ g.gives);
@@ -97,6 +99,7 @@ module _ {B : Type 0} (statement : Owner) where
           ⊎ ReadsSections statement (λ ws. first ws >>= (λ got. next got.0 got.1)) (head ++ word ∷ words)
       found (inl g) = inl (record {
         more = g.more;
+        plain = g.plain;
         made = g.made;
         gives = ap (λ ws. first ws >>= (λ got. next got.0 got.1)) (append_assoc head (word ∷ words) g.more)
             ∙ (then-ok (first (head ++ (word ∷ (words ++ g.more)))) (λ got. next got.0 got.1) (x, word ∷ (words ++ g.more)) (r (words ++ g.more)) ∙ g.gives);
@@ -154,10 +157,10 @@ module _ {B : Type 0} (statement : Owner) where
   described-end make (word ∷ words) e = described-case make word words (after (codes "description=") word) refl e
 
 -- the words of a form: they end too early, or their sections lack a pair
-pub data FormLacks {B : Type 0} (read : Words → Result B ParseCause) : Words → Type 0 where
-  form_ends : (words more : Words) (made : B) → read (words ++ more) ≡ Ok made → FormLacks read words
-  form_lacks : (front : Words) (next : SectionWord) (behind more : Words) (made : B) → EndsInBareSection front → read (front ++ more) ≡ Ok made
-      → ((more : Words) → read (front ++ section_text next ∷ more) ≡ Err MissingWord) → FormLacks read (front ++ section_text next ∷ behind)
+pub data FormLacks {B : Type 0} (May : SectionWord → Type 0) (read : Words → Result B ParseCause) : Words → Type 0 where
+  form_ends : (words more : Words) (made : B) → AllByRecursion LacksEnabled more → read (words ++ more) ≡ Ok made → FormLacks May read words
+  form_lacks : (front : Words) (next : SectionWord) (behind more : Words) (made : B) → AllByRecursion LacksEnabled more → May next → EndsInBareSection front → read (front ++ more) ≡ Ok made
+      → ((more : Words) → read (front ++ section_text next ∷ more) ≡ Err MissingWord) → FormLacks May read (front ++ section_text next ∷ behind)
 
 -- one more word stands before
 pub bare-behind : (word : List ℕ) (words : Words) → EndsInBareSection words → EndsInBareSection (word ∷ words)
@@ -183,29 +186,29 @@ module _ {B : Type 0} (statement : Owner) (read : Words → Result B ParseCause)
       → sections_at statement (first ∷ words) ≡ Ok made → read (head ++ first ∷ words) ≡ Ok (make made)
   read-behind head first make words made a e = a words ∙ then-ok (sections_at statement (first ∷ words)) _ made e
 
-  within-case : (head : Words) (first : List ℕ) (make : Sections → B) (rest front : Words) (next : SectionWord) (behind more : Words) (made : Sections) → ReadBehind head first make
-      → front ++ section_text next ∷ behind ≡ first ∷ rest → EndsInBareSection front → sections_at statement (front ++ more) ≡ Ok made
-      → ((more : Words) → sections_at statement (front ++ section_text next ∷ more) ≡ Err MissingWord) → FormLacks read (head ++ (front ++ section_text next ∷ behind))
-  within-case head first make rest [] next behind more made a w bare e closed = absurd (bare-some [] bare refl)
-  within-case head first make rest (v ∷ front) next behind more made a w bare e closed =
+  within-case : (head : Words) (first : List ℕ) (make : Sections → B) (rest front : Words) (next : SectionWord) (behind more : Words) (made : Sections) → AllByRecursion LacksEnabled more → ReadBehind head first make
+      → front ++ section_text next ∷ behind ≡ first ∷ rest → MayHave statement next → EndsInBareSection front → sections_at statement (front ++ more) ≡ Ok made
+      → ((more : Words) → sections_at statement (front ++ section_text next ∷ more) ≡ Err MissingWord) → FormLacks (MayHave statement) read (head ++ (front ++ section_text next ∷ behind))
+  within-case head first make rest [] next behind more made l a w may bare e closed = absurd (bare-some [] bare refl)
+  within-case head first make rest (v ∷ front) next behind more made l a w may bare e closed =
       let same : v ≡ first = cc in
       let at : ReadBehind head v make = subst (λ u. ReadBehind head u make) (sym same) a in
-      subst (FormLacks read) (append_assoc head (v ∷ front) (section_text next ∷ behind))
-      (form_lacks (head ++ v ∷ front) next behind more (make made) (bare-all head (v ∷ front) bare)
+      subst (FormLacks (MayHave statement) read) (append_assoc head (v ∷ front) (section_text next ∷ behind))
+      (form_lacks (head ++ v ∷ front) next behind more (make made) l may (bare-all head (v ∷ front) bare)
       (ap read (append_assoc head (v ∷ front) more) ∙ read-behind head v make (front ++ more) made at e)
       (λ more. ap read (append_assoc head (v ∷ front) (section_text next ∷ more)) ∙ (at (front ++ section_text next ∷ more) ∙ rw (closed more) refl)))
 
   lack-case : (head : Words) (first : List ℕ) (make : Sections → B) (whole rest : Words) → ReadBehind head first make → whole ≡ first ∷ rest → LackPair statement whole
-      → FormLacks read (head ++ whole)
-  lack-case head first make whole rest a w (lack_at_end words more made e) =
-      form_ends (head ++ words) more (make made) (ap read (append_assoc head words more)
+      → FormLacks (MayHave statement) read (head ++ whole)
+  lack-case head first make whole rest a w (lack_at_end words more made l e) =
+      form_ends (head ++ words) more (make made) l (ap read (append_assoc head words more)
       ∙ (ap (λ (ws : Words). read (head ++ (ws ++ more))) w ∙ read-behind head first make (rest ++ more) made a (subst (λ ws. sections_at statement (ws ++ more) ≡ Ok made) w e)))
-  lack-case head first make whole rest a w (lack_within front next behind more made bare e closed) =
-      within-case head first make rest front next behind more made a w bare e closed
+  lack-case head first make whole rest a w (lack_within front next behind more made l may bare e closed) =
+      within-case head first make rest front next behind more made l a w may bare e closed
 
-  form-case : (words : Words) → GoesFurther Whatever (λ more. read (words ++ more)) ⊎ ReadsSections statement read words → FormLacks read words
-  form-case words (inl g) = form_ends words g.more g.made g.gives
-  form-case words (inr s) = subst (FormLacks read) (sym s.words_are) (lack-case s.head s.first s.make (s.first ∷ s.rest) s.rest s.again refl (sections-lack statement (s.first ∷ s.rest) s.missing))
+  form-case : (words : Words) → GoesFurther Whatever (λ more. read (words ++ more)) ⊎ ReadsSections statement read words → FormLacks (MayHave statement) read words
+  form-case words (inl g) = form_ends words g.more g.made g.plain g.gives
+  form-case words (inr s) = subst (FormLacks (MayHave statement) read) (sym s.words_are) (lack-case s.head s.first s.make (s.first ∷ s.rest) s.rest s.again refl (sections-lack statement (s.first ∷ s.rest) s.missing))
 
-  pub form-lacks : (words : Words) → Ends statement read words → read words ≡ Err MissingWord → FormLacks read words
+  pub form-lacks : (words : Words) → Ends statement read words → read words ≡ Err MissingWord → FormLacks (MayHave statement) read words
   form-lacks words k e = form-case words (k e)

@@ -1,7 +1,7 @@
 -- Sections that lack a pair at their end can be continued. Else a section without a pair stands before another section word.
 use Rattle.std.proofs.Common.{◌≡◌, ◌≢◌, ℕ, Bool, true, false, cond, List, [], ◌∷◌, ◌++◌, Result, Ok, Err, refl, sym, ◌∙◌}
 use Rattle.std.specs.Prelude.{codes, not, nat_le, length, filter, ◌&&◌, ◌==◌}
-use Rattle.std.specs.List.{list_any}
+use Rattle.std.specs.List.{AllByRecursion, list_any}
 use Rattle.crm_lex.specs.Names.{is}
 use Rattle.faults.specs.Reading.{◌>>=◌}
 use Rattle.crm_parse.specs.declared.fault.ParseCause.{ParseCause}
@@ -15,6 +15,7 @@ use Rattle.crm_parse.specs.declared.place.OpName.{OpName}
 use Rattle.crm_parse.specs.declared.place.Place.{Place}
 use Rattle.crm_parse.specs.declared.place.Place.TheVariants as place
 use Rattle.crm_parse.specs.declared.section.Sections.{Sections}
+use Rattle.crm_parse.specs.FirstFaults.{LacksEnabled}
 use Rattle.crm_parse.specs.Keys.{is_monitor_name}
 use Rattle.crm_parse.specs.Operations.{has_monitor_room, has_op, interval_in, interval_of, is_off, is_single, new_name, op_name, op_pairs, operation_of, recurs, with_op_pair, with_op_pairs}
 use Rattle.crm_parse.specs.Pairs.{kv_of, repeats, with_pair, with_pairs, with_section}
@@ -22,7 +23,7 @@ use Rattle.crm_parse.specs.Reading.{Words, name_of}
 use Rattle.crm_parse.specs.Sections.{cut_into_sections, may_follow, place_of, section_of, with_part, with_words}
 use Rattle.crm_parse.proofs.CausesKept.{none-kv, none-ok}
 use Rattle.crm_parse.proofs.FaultsStay.{same-fault}
-use Rattle.crm_parse.proofs.GoesFurther.{LacksNone, none-if, none-name, none-step, none-when}
+use Rattle.crm_parse.proofs.GoesFurther.{LacksNone, none-if, none-name, none-step, none-when, lacks-enabled}
 use Rattle.crm_parse.proofs.LinesGoFurther.{a_name, a_pair, kv-taken, pair_of_id}
 
 pub then-ok : {A B : Type 0} (read : Result A ParseCause) (f : A → Result B ParseCause) (x : A) → read ≡ Ok x → (read >>= f) ≡ f x
@@ -89,6 +90,7 @@ pub data BareWords : SectionWord → Words → Type 0 where
 pub record Filled {T : Type 0} (statement : Owner) (section : SectionWord) (words : Words) (read : Words → Result T ParseCause) : Type 0 where
   pub bare : BareWords section words
   pub fill : Words
+  pub other : AllByRecursion LacksEnabled fill
   pub plain : (is_name : Bool) → cut_into_sections statement is_name fill ≡ (fill, [])
   pub made : T
   pub gives : read (words ++ fill) ≡ Ok made
@@ -110,6 +112,7 @@ module _ (statement : Owner) where
   op_filled-case ops word (Ok name) r e = record {
     bare = no_pair_of_it word;
     fill = a_pair ∷ [];
+    other = lacks-enabled (a_pair ∷ []) refl;
     plain = pair-plain;
     made = record { name = name; pairs = pair_of_id ∷ [] };
     gives = then-ok (new_name ops word) _ name r ∙ then-ok (op_pairs ops (op_name name) (a_pair ∷ [])) _ (pair_of_id ∷ []) (op_pairs-filled ops (op_name name));
@@ -123,6 +126,7 @@ module _ (statement : Owner) where
   op-filled ops [] e = record {
     bare = no_operation;
     fill = a_name ∷ a_pair ∷ [];
+    other = lacks-enabled (a_name ∷ a_pair ∷ []) refl;
     plain = named-plain;
     made = record { name = a_name; pairs = pair_of_id ∷ [] };
     gives = then-ok (op_pairs ops (op_name a_name) (a_pair ∷ [])) _ (pair_of_id ∷ []) (op_pairs-filled ops (op_name a_name));
@@ -138,6 +142,7 @@ module _ (statement : Owner) where
   pairs-filled p section other pairs make [] e = record {
     bare = no_pair section other;
     fill = a_pair ∷ [];
+    other = lacks-enabled (a_pair ∷ []) refl;
     plain = pair-plain;
     made = make (pairs ++ pair_of_id ∷ []);
     gives = then-ok (with_section p pairs (a_pair ∷ [])) _ (pairs ++ pair_of_id ∷ []) (section-filled p pairs);
@@ -153,6 +158,7 @@ module _ (statement : Owner) where
       record {
         bare = f.bare;
         fill = f.fill;
+        other = f.other;
         plain = f.plain;
         made = record before { ops = before.ops ++ f.made ∷ [] };
         gives = then-ok (operation_of before.ops (words ++ f.fill)) _ f.made f.gives;

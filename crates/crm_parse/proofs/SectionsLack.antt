@@ -1,24 +1,41 @@
 -- Sections that are refused for a missing word lack a pair at their end, or before another section word.
 use Rattle.std.proofs.Common.{◌≡◌, true, false, List, [], ◌∷◌, ◌++◌, Some, Result, Ok, Err, refl, sym, ap, ◌∙◌, subst, append_assoc}
-use Rattle.std.specs.List.{flat_map}
+use Rattle.std.specs.List.{AllByRecursion, flat_map}
 use Rattle.std.proofs.lemmas.Grind.{flat_map-append}
 use Rattle.std.proofs.lemmas.List.{append-nil}
 use Rattle.faults.specs.Reading.{◌>>=◌}
 use Rattle.crm_parse.specs.declared.fault.ParseCause.{ParseCause}
 use Rattle.crm_parse.specs.declared.fault.ParseCause.TheVariants.{MissingWord}
 use Rattle.crm_parse.specs.declared.owner.Owner.{Owner}
+use Rattle.crm_parse.specs.declared.owner.Owner.TheVariants as owner
 use Rattle.crm_parse.specs.declared.owner.SectionWord.{SectionWord}
-use Rattle.crm_parse.specs.declared.owner.SectionWord.TheVariants.{Params, Op}
+use Rattle.crm_parse.specs.declared.owner.SectionWord.TheVariants.{Attributes, Params, Meta, Utilization, Operations, Op}
 use Rattle.crm_parse.specs.declared.section.Sections.{Sections}
-use Rattle.crm_parse.specs.FirstFaults.{EndsInBareSection, bare_operation, bare_section}
+use Rattle.crm_parse.specs.FirstFaults.{EndsInBareSection, LacksEnabled, MayHave, bare_operation, bare_section, may_have_operations, may_have_pairs}
 use Rattle.crm_parse.specs.Grammar.Parts.{section_text}
 use Rattle.crm_parse.specs.Reading.{Words}
-use Rattle.crm_parse.specs.Sections.{Part, cut_into_sections, no_sections, place_of, sections_at, takes_name, with_cut, with_part, with_parts}
+use Rattle.crm_parse.specs.Sections.{Part, allows_section, cut_into_sections, no_sections, place_of, sections_at, takes_name, with_cut, with_part, with_parts}
 use Rattle.crm_parse.proofs.CausesKept.{none-stray}
 use Rattle.crm_parse.proofs.CutFurther.{awaits, awaits-name, cut-joined, grown, grown-last, split-at}
 use Rattle.crm_parse.proofs.FaultsStay.{same-fault}
-use Rattle.crm_parse.proofs.Grammar.SectionWords.{cut-words, part_words, whole_words}
+use Rattle.crm_parse.proofs.Grammar.SectionWords.{begins, cut-words, part_words, placed, whole_words}
 use Rattle.crm_parse.proofs.SectionsGoFurther.{BareWords, Filled, no_operation, no_pair, no_pair_of_it, part-filled, then-ok}
+
+-- a section that is allowed is one that the statement may have
+may-have-op : (statement : Owner) → allows_section statement Op ≡ true → statement ≡ owner.Primitive
+may-have-op owner.Node a = absurd (cc)
+may-have-op owner.Primitive a = refl
+may-have-op owner.Group a = absurd (cc)
+may-have-op owner.Clone a = absurd (cc)
+may-have-op owner.Ms a = absurd (cc)
+
+may-have : (statement : Owner) (section : SectionWord) → allows_section statement section ≡ true → MayHave statement section
+may-have statement Attributes a = may_have_pairs Attributes (place_of statement Attributes) (placed statement Attributes a refl)
+may-have statement Params a = may_have_pairs Params (place_of statement Params) (placed statement Params a refl)
+may-have statement Meta a = may_have_pairs Meta (place_of statement Meta) (placed statement Meta a refl)
+may-have statement Utilization a = may_have_pairs Utilization (place_of statement Utilization) (placed statement Utilization a refl)
+may-have statement Operations a = may_have_pairs Operations (place_of statement Operations) (placed statement Operations a refl)
+may-have statement Op a = may_have_operations (may-have-op statement a)
 
 module _ (statement : Owner) where
   -- the first part without a pair
@@ -125,8 +142,8 @@ module _ (statement : Owner) where
 
   -- sections that lack a pair
   pub data LackPair : Words → Type 0 where
-    lack_at_end : (words more : Words) (made : Sections) → sections_at statement (words ++ more) ≡ Ok made → LackPair words
-    lack_within : (front : Words) (next : SectionWord) (behind more : Words) (made : Sections) → EndsInBareSection front → sections_at statement (front ++ more) ≡ Ok made
+    lack_at_end : (words more : Words) (made : Sections) → AllByRecursion LacksEnabled more → sections_at statement (words ++ more) ≡ Ok made → LackPair words
+    lack_within : (front : Words) (next : SectionWord) (behind more : Words) (made : Sections) → AllByRecursion LacksEnabled more → MayHave statement next → EndsInBareSection front → sections_at statement (front ++ more) ≡ Ok made
         → ((more : Words) → sections_at statement (front ++ section_text next ∷ more) ≡ Err MissingWord) → LackPair (front ++ section_text next ∷ behind)
 
   rest-case : (words : Words) (parts front : List Part) (section : SectionWord) (own : Words) (rest : List Part) (state : Sections) → cut_into_sections statement false words ≡ ([], parts)
@@ -134,7 +151,7 @@ module _ (statement : Owner) where
   rest-case words parts front section own [] state c p d m =
       let f = part-filled statement state section own m in
       let b : EndsBare words section own state = record { parts = front; cut = c ∙ ap (λ (ps : List Part). ([], ps)) p; done = d } in
-      lack_at_end words f.fill f.made (filled-read words section own state b f)
+      lack_at_end words f.fill f.made f.other (filled-read words section own state b f)
   rest-case words parts front section own ((next, mine) ∷ rest) state c p d m =
       let f = part-filled statement state section own m in
       let longer : (cut_into_sections statement false words).1 ≡ (front ++ (section, own) ∷ []) ++ (next, mine) ∷ rest =
@@ -144,7 +161,7 @@ module _ (statement : Owner) where
       let cut : cut_into_sections statement false s.front ≡ ([], front ++ (section, own) ∷ []) =
       ap (λ ws. (ws, (cut_into_sections statement false s.front).1)) none ∙ ap (λ ps. ([], ps)) s.parts_are in
       let b : EndsBare s.front section own state = record { parts = front; cut = cut; done = d } in
-      subst LackPair (sym s.words_are) (lack_within s.front next s.behind f.fill f.made (ends-bare s.front section own state b f.bare s.plain) (filled-read s.front section own state b f)
+      subst LackPair (sym s.words_are) (lack_within s.front next s.behind f.fill f.made f.other (may-have statement next (begins statement (section_text next) next s.begins_it).allows) (ends-bare s.front section own state b f.bare s.plain) (filled-read s.front section own state b f)
       (λ more. let behind = cut_into_sections statement (takes_name (Some next)) more in
       closed-read s.front section own state next more b m behind.0 behind.1 (rw (s.plain, s.begins_it) refl)))
 

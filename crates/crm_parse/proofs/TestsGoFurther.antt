@@ -73,27 +73,27 @@ attribute-further : (name : List ℕ) (noted words : Words) → Continues Throug
 unfolding attribute_at noted_at untyped
 attribute-further name noted words =
     continue-test ThroughKept (filled name) _ _ (none-filled name) (λ t e.
-    continue-noted ThroughKept noted words _ (further ThroughKept _ (codes "eq" ∷ codes "1" ∷ []) _ refl refl) (λ word.
+    continue-noted ThroughKept noted words _ (further ThroughKept _ (codes "eq" ∷ codes "1" ∷ []) _ refl refl refl) (λ word.
     continue-test ThroughKept (comparison_of word.0) _ _ (none-comparison word.0) (λ c e.
-    continue-noted ThroughKept word.1 word.2 _ (further ThroughKept _ (codes "1" ∷ []) (Attribute name c.1 c.0 (codes "1"), word.1 ++ codes "1" ∷ [], []) (rw (one-compares c.0) refl) refl) (λ value.
+    continue-noted ThroughKept word.1 word.2 _ (further ThroughKept _ (codes "1" ∷ []) (Attribute name c.1 c.0 (codes "1"), word.1 ++ codes "1" ∷ [], []) (rw (one-compares c.0) refl) refl refl) (λ value.
     λ e. absurd (none-step (comparable c.0 value.0) _ (none-comparable c.0 value.0) (λ t e. cc) e)))))
 
 defined-further : (defined : Bool) (noted words : Words) → Continues ThroughKept (defined_at defined noted words) (λ more. defined_at defined noted (words ++ more))
 unfolding defined_at noted_at
 defined-further defined noted words =
-    continue-noted ThroughKept noted words _ (further ThroughKept _ (a_name ∷ []) _ refl refl) (λ name.
+    continue-noted ThroughKept noted words _ (further ThroughKept _ (a_name ∷ []) _ refl refl refl) (λ name.
     λ e. absurd (none-step (filled name.0) _ (none-filled name.0) (λ t e. cc) e))
 
 date-further : (noted words : Words) → Continues ThroughKept (date_at noted words) (λ more. date_at noted (words ++ more))
 unfolding date_at noted_at instant has_form
 date-further noted words =
-    continue-noted ThroughKept noted words _ (further ThroughKept _ (a_date ∷ []) _ refl refl) (λ word.
+    continue-noted ThroughKept noted words _ (further ThroughKept _ (a_date ∷ []) _ refl refl refl) (λ word.
     λ e. absurd (none-step (read_moment word.0) _ (none-moment word.0) (λ t e. cc) e))
 
 end-further : (noted words : Words) → Continues ThroughKept (end_date_at noted words) (λ more. end_date_at noted (words ++ more))
 unfolding end_date_at noted_at instant has_form
 end-further noted words =
-    continue-noted ThroughKept noted words _ (further ThroughKept _ ((codes "end=" ++ a_date) ∷ []) _ refl refl) (λ word.
+    continue-noted ThroughKept noted words _ (further ThroughKept _ ((codes "end=" ++ a_date) ∷ []) _ refl refl refl) (λ word.
     λ e. absurd (none-step (end_text word.0) _ (none-end_text word.0) (λ text. none-step (read_moment text) _ (none-moment text) (λ t e. cc)) e))
 
 start-missing : (noted words : Words) → start_at noted words ≡ Err MissingWord → words ≡ []
@@ -108,14 +108,14 @@ dates-further date.Lt noted words = continue-last ThroughKept ThroughKept (date_
 dates-further date.Gt noted words = continue-last ThroughKept ThroughKept (date_at noted words) (λ more. date_at noted (words ++ more)) _ (λ x h. h) (date-further noted words)
 dates-further date.In noted words =
     continue-kept ThroughKept (start_at noted) words _ (λ more. start-goes MissingWord more noted words) (start-missing noted words)
-    (further ThroughKept _ ((codes "start=" ++ a_date) ∷ (codes "end=" ++ a_date) ∷ []) _ refl refl)
+    (further ThroughKept _ ((codes "start=" ++ a_date) ∷ (codes "end=" ++ a_date) ∷ []) _ refl refl refl)
     (λ start e. continue-last ThroughKept ThroughKept (end_date_at start.1 start.2) (λ more. end_date_at start.1 (start.2 ++ more)) _ (λ x h. h) (end-further start.1 start.2))
 
 date_test-further : (noted words : Words) → Continues ThroughKept (date_test_at noted words) (λ more. date_test_at noted (words ++ more))
 unfolding date_test_at date_at dates_at noted_at instant has_form
 date_test-further noted words =
     continue-word ThroughKept next_word_in words _ (λ more. next-goes MissingWord more words) (next-missing words)
-    (further ThroughKept _ (codes "lt" ∷ a_date ∷ []) _ refl refl) (λ word e.
+    (further ThroughKept _ (codes "lt" ∷ a_date ∷ []) _ refl refl refl) (λ word e.
     continue-test ThroughKept (date_test_of word.0) _ _ (none-date_test word.0) (λ test e. dates-further test (noted ++ date_test_text test ∷ []) word.1))
 
 abbrev chosen_test : Bool → Bool → Bool → List ℕ → Words → Words → Result (Test × Words × Words) ParseCause
@@ -131,7 +131,7 @@ chosen-further false false false word noted words = attribute-further word noted
 test-further : (noted words : Words) → Continues ThroughKept (test_at noted words) (λ more. test_at noted (words ++ more))
 unfolding test_at noted_at defined_at
 test-further noted words =
-    continue-noted ThroughKept noted words _ (further ThroughKept _ a_test _ refl refl) (λ word.
+    continue-noted ThroughKept noted words _ (further ThroughKept _ a_test _ refl refl refl) (λ word.
     chosen-further (is word.0 (codes "date")) (is word.0 (codes "defined")) (is word.0 (codes "not_defined")) word.0 word.1 word.2)
 
 one-further : (before : Expression) (words : Words) → Continues Through (with_test before words) (λ more. with_test before (words ++ more))
@@ -147,7 +147,7 @@ joined-further : (before : Expression) (all : Bool) (words : Words) → Continue
 unfolding with_joined with_test test_at noted_at defined_at
 joined-further before all words =
     continue-test Through (joined_alike before.joined all) _ _ (none-alike before.joined all) (λ t e.
-    continue-noted Through before.words words _ (further Through _ (codes "and" ∷ a_test) _ refl refl) (λ word.
+    continue-noted Through before.words words _ (further Through _ (codes "and" ∷ a_test) _ refl refl refl) (λ word.
     one-further (record { joined = Some all; tests = before.tests; words = word.1 }) word.2))
 
 -- one less, of a count above 0
@@ -186,10 +186,10 @@ tests-case most room (Some all) before word words j m k = λ e.
         → GoesFurther Through (λ more. with_joined before all (word ∷ (words ++ more)) >>= (λ got. with_tests (less (room more)) (joiner_at got.1) got.0 got.1))
     joined-case (Ok got) r e =
         let on = k all got refl r e in
-        record { more = on.more; made = on.made; gives = rw (joined-goes MissingWord on.more all before (word ∷ words) got r) on.gives; ends = on.ends }
+        record { more = on.more; plain = on.plain; made = on.made; gives = rw (joined-goes MissingWord on.more all before (word ∷ words) got r) on.gives; ends = on.ends }
     joined-case (Err why) r e =
         let on = joined-further before all (word ∷ words) (r ∙ same-fault why MissingWord e) in
-        record { more = on.more; made = (on.made.0, []); gives = rw on.gives (tests-end (less (room on.more)) on.made.0 on.made.1 on.ends); ends = refl }
+        record { more = on.more; plain = on.plain; made = (on.made.0, []); gives = rw on.gives (tests-end (less (room on.more)) on.made.0 on.made.1 on.ends); ends = refl }
 
 tests-further : (most : ℕ) (room : Words → ℕ) (before : Expression) (words : Words) → length words ≤ most → ((more : Words) → length (words ++ more) ≤ room more)
     → Continues Through (with_tests most (joiner_at words) before words) (λ more. with_tests (room more) (joiner_at (words ++ more)) before (words ++ more))
@@ -212,10 +212,10 @@ expression-further words e = first-case (with_test no_tests words) refl e
         → GoesFurther Through (λ more. with_test no_tests (words ++ more) >>= (λ first. with_tests (length first.1) (joiner_at first.1) first.0 first.1))
     first-case (Ok first) r e =
         let on = tests-further (length first.1) (λ more. length (first.1 ++ more)) first.0 first.1 (omega arith) (λ more. omega arith) e in
-        record { more = on.more; made = on.made; gives = rw (one-goes MissingWord on.more no_tests words first r) on.gives; ends = on.ends }
+        record { more = on.more; plain = on.plain; made = on.made; gives = rw (one-goes MissingWord on.more no_tests words first r) on.gives; ends = on.ends }
     first-case (Err why) r e =
         let on = one-further no_tests words (r ∙ same-fault why MissingWord e) in
-        record { more = on.more; made = (on.made.0, []); gives = rw on.gives (tests-end (length on.made.1) on.made.0 on.made.1 on.ends); ends = refl }
+        record { more = on.more; plain = on.plain; made = (on.made.0, []); gives = rw on.gives (tests-end (length on.made.1) on.made.0 on.made.1 on.ends); ends = refl }
 
 -- rules
 id-goes : (more rest : Words) (word : List ℕ) → Goes (left more) (rule_id_at (word ∷ rest)) (rule_id_at (word ∷ (rest ++ more)))
@@ -241,16 +241,16 @@ a_scored_test = a_score_word ∷ a_test
 rule-further : (words : Words) → Continues Through (rule_at words) (λ more. rule_at (words ++ more))
 unfolding rule_at rule_id_at rule_role_at score_of expression_at with_test test_at noted_at defined_at joiner_at
 rule-further words =
-    continue-option Through rule_id_at words _ id-goes (λ word rest. id-none (word ∷ rest)) (further Through _ a_scored_test _ refl refl) (λ id e.
-    continue-option Through rule_role_at id.1 _ role-goes (λ word rest. role-none (word ∷ rest)) (further Through _ a_scored_test _ refl refl) (λ role e.
-    continue-word Through next_word_in role.1 _ (λ more. next-goes MissingWord more role.1) (next-missing role.1) (further Through _ a_scored_test _ refl refl) (λ word e.
+    continue-option Through rule_id_at words _ id-goes (λ word rest. id-none (word ∷ rest)) (further Through _ a_scored_test _ refl refl refl) (λ id e.
+    continue-option Through rule_role_at id.1 _ role-goes (λ word rest. role-none (word ∷ rest)) (further Through _ a_scored_test _ refl refl refl) (λ role e.
+    continue-word Through next_word_in role.1 _ (λ more. next-goes MissingWord more role.1) (next-missing role.1) (further Through _ a_scored_test _ refl refl refl) (λ word e.
     continue-test Through (rule_score_of word.0) _ _ (none-rule_score word.0) (λ points e.
     continue-last Through Through (expression_at word.1) (λ more. expression_at (word.1 ++ more)) _ (λ x h. h) (expression-further word.1)))))
 
 one_rule-further : (before : List RuleForm) (words : Words) → Continues Through (with_rule before words) (λ more. with_rule before (words ++ more))
 unfolding with_rule rule_at rule_id_at rule_role_at score_of expression_at with_test test_at noted_at defined_at joiner_at
 one_rule-further before words =
-    continue-word Through next_word_in words _ (λ more. next-goes MissingWord more words) (next-missing words) (further Through _ (codes "rule" ∷ a_scored_test) _ refl refl) (λ word e.
+    continue-word Through next_word_in words _ (λ more. next-goes MissingWord more words) (next-missing words) (further Through _ (codes "rule" ∷ a_scored_test) _ refl refl refl) (λ word e.
     continue-test Through (when (is word.0 (codes "rule")) ExtraWord) _ _ (none-when (is word.0 (codes "rule")) ExtraWord (λ e. cc)) (λ taken e.
     continue-last Through Through (rule_at word.1) (λ more. rule_at (word.1 ++ more)) _ (λ x h. h) (rule-further word.1)))
 
@@ -275,10 +275,10 @@ rules-case most room before word words (Ok (rules, [])) r e k =
     absurd (cc)
 rules-case most room before word words (Ok (rules, v ∷ vs)) r e k =
     let on = k rules v vs r e in
-    record { more = on.more; made = on.made; gives = rw (one_rule-goes-on MissingWord on.more before (word ∷ words) rules v vs r) on.gives; ends = tt }
+    record { more = on.more; plain = on.plain; made = on.made; gives = rw (one_rule-goes-on MissingWord on.more before (word ∷ words) rules v vs r) on.gives; ends = tt }
 rules-case most room before word words (Err why) r e k =
     let on = one_rule-further before (word ∷ words) (r ∙ same-fault why MissingWord e) in
-    record { more = on.more; made = on.made.0; gives = rw on.gives (rules-end (less (room on.more)) on.made.0 on.made.1 on.ends); ends = tt }
+    record { more = on.more; plain = on.plain; made = on.made.0; gives = rw on.gives (rules-end (less (room on.more)) on.made.0 on.made.1 on.ends); ends = tt }
 
 pub rules-further : (most : ℕ) (room : Words → ℕ) (before : List RuleForm) (words : Words) → length words ≤ most → ((more : Words) → length (words ++ more) ≤ room more)
     → Continues Whatever (with_rules most before words) (λ more. with_rules (room more) before (words ++ more))

@@ -103,10 +103,16 @@ pub fn a_fault_stays_whatever_stands_behind()
 {}
 
 /// A line that is refused for a missing word ends too early: with some words more it says a statement. Or a section has no pair and stands before
-/// another section word, and with that word no line says any.
+/// the word of another one that the statement may have, and with that word no line says any.
 pub fn a_missing_word_is_missing_at_the_end_or_in_a_section()
     ensures { (before : List DraftOf) (words : List (List ℕ)) → draft_of before words ≡ Err MissingWord
         → BeginsLine before words ⊎ LacksPair before words }
+{}
+
+/// A line that says nothing and ends too early is refused for a missing word.
+pub fn a_line_that_ends_too_early_lacks_a_word()
+    ensures { (before : List DraftOf) (words : List (List ℕ)) → words ≢ [] → ((statement : StatementOf) → LineSays before words statement → ⊥)
+        → BeginsLine before words → draft_of before words ≡ Err MissingWord }
 {}
 
 /// A line that is refused for another cause than a missing word has a first faulty word: with some words behind them the words before it say a

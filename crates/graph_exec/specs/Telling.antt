@@ -46,7 +46,7 @@ pub record RunView : Type 0 where
 abbrev pub view_between : Cluster → List Promotion → List Event → RunView
 view_between c promotions es = record { cluster = c; promotions = promotions; plan = None; events = es }
 
--- the plan with these actions is
+-- the plan with these actions is being carried out
 abbrev pub view_amid : Cluster → List Promotion → List Action → List Event → RunView
 view_amid c promotions actions es = record { cluster = c; promotions = promotions; plan = Some actions; events = es }
 

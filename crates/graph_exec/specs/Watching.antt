@@ -57,6 +57,7 @@ pub record IsWatcherCutOffAsking (Stopped : List RunLine → Option RunLine → 
   pub waiting : IsWaiting (going new) new.since
   pub told : AreLinesTold (λ lines. Stopped lines None) old new
 
+-- what the watcher was told, by what it said at last: it went on; or it stopped, at the line of the last step or as the source was about to be asked
 abbrev pub Hears : (List RunLine → Type 0) → (List RunLine → Option RunLine → Type 0) → Bool → Running → Running → Option (List Answer) → Option (List Answer) → Heard → Type 0
 Hears Follows Stopped whole old new rest left heard.Go = AreLinesTold Follows old new
 Hears Follows Stopped whole old new rest left heard.Stop = IsWatcherCutOff Stopped whole old new rest left ⊎ IsWatcherCutOffAsking Stopped old new

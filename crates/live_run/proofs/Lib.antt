@@ -1,5 +1,6 @@
 pub mod Dues
 pub mod Behind
+pub mod Given
 pub mod Reaching
 pub mod Cuts
 pub mod Fitting
@@ -18,3 +19,4 @@ pub mod HeadBringing
 pub mod HeadLines
 pub mod LinesJoined
 pub mod AllRead
+pub mod AllTaken

@@ -28,3 +28,4 @@ pub mod PlainResults
 pub mod TraceRead
 pub mod ReplayAgain
 pub mod WrittenFronts
+pub mod InputAgain

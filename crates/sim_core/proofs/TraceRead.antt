@@ -26,7 +26,8 @@ use Rattle.input_reading.specs.declared.words.word_cause.WordCause.TheVariants.{
 use Rattle.input_reading.specs.LineWords.{line_word}
 use Rattle.input_reading.specs.Places.{WordsOfLine, word_at}
 use Rattle.input_reading.specs.declared.results.result_lines.ResultLine.{ResultLine}
-use Rattle.input_reading.specs.Reading.{configuration_lines, configuration_of, head_of, input_of, line_behind, start_of, status_lines, with_cluster, with_results}
+use Rattle.input_reading.specs.declared.input.reading.Input.{Input}
+use Rattle.input_reading.specs.Reading.{ReadsInput, configuration_lines, configuration_of, following_lines, head_of, input_of, line_behind, start_of, status_lines, with_cluster, with_results}
 use Rattle.input_reading.specs.Results.{answer_of, result_word, results_of}
 use Rattle.cluster_types.specs.Journals.{moment_of}
 use Rattle.sim_core.proofs.PlainResults.{plain_results}
@@ -283,3 +284,115 @@ module _ (text : List ℕ) (rows : List Line) (head : Head) (h : IsHeadOf rows h
       let status = range_in_front (position_or_len status_line rows + 1) rows (results_mark n ∷ others) in
       let behind = range_behind rows (results_mark n) others in
       rw (configured-is, h.resolves, status, h.made, behind, read) refl
+
+-- the front of a head with the line that begins the results is read as that head
+pub start-is : (text : List ℕ) (rows : List Line) (head : Head) (h : IsHeadOf rows head) (n : ℕ) → reads text ≡ Ok (rows ++ results_mark n ∷ []) → start_of text ≡ Ok head
+unfolding start_of
+start-is text rows head h n are =
+    let status = range_in_front (position_or_len status_line rows + 1) rows (results_mark n ∷ []) in
+    let found = configured-is text rows head h n [] are [] refl in
+    rw (found, h.resolves, status, h.made) refl
+
+-- an input has the head of these lines, and the results of those behind the line that begins them
+pub record IsInputOf (rows others : List Line) (whole : Input) : Type 0 where
+  pub head : IsHeadOf rows whole.head
+  pub results : results_of whole.head.cluster (moment_of whole.head.journal.events) others ≡ Ok whole.results
+
+lines_behind : (rows others given : List Line) (mark : Line) (results_at end : ℕ) (P : List Line → Type 0) → given ≡ rows ++ mark ∷ others → results_at ≡ length rows
+    → end ≡ length (rows ++ mark ∷ others) → P (slice_range given (results_at + 1) end) → P others
+lines_behind rows others given mark results_at end P same at to p =
+    subst P (range_behind rows mark others)
+    (subst (λ (n : ℕ). P (slice_range (rows ++ mark ∷ others) (length rows + 1) n)) to
+    (subst (λ (n : ℕ). P (slice_range (rows ++ mark ∷ others) (n + 1) end)) at (subst (λ (ls : List Line). P (slice_range ls (results_at + 1) end)) same p)))
+
+-- the steps by which an input is read
+record InputParts (text : List ℕ) (whole : Input) : Type 0 where
+  lines : List Line
+  marks : SectionMarks
+  crm : Crm
+  leaves : Leaves
+  cluster : Cluster
+  head : Head
+  are : reads text ≡ Ok lines
+  placed : sections_of lines ≡ Ok marks
+  statements : statements_of (configuration_lines marks lines) ≡ Ok crm
+  expands : expansion_of crm.statements ≡ Ok leaves
+  resolves : resolution_of leaves crm.statements ≡ Ok cluster
+  made : head_of crm cluster (status_lines marks lines) ≡ Ok head
+  behind : with_results head (following_lines marks lines) ≡ Ok whole
+
+input_parts : (text : List ℕ) (whole : Input) → ReadsInput text whole → InputParts text whole
+unfolding input_of configuration_of
+input_parts text whole r =
+    let found = passed_on (configuration_of sections_of text) _ whole r in
+    let words = passed cause.Words (reads text) _ found.gave found.is in
+    let marks = passed cause.Statements (sections_of words.gave) _ found.gave words.goes_on in
+    let crm = passed cause.Statements (statements_of (configuration_lines marks.gave words.gave)) _ found.gave marks.goes_on in
+    let leaves = passed cause.Leaves (expansion_of crm.gave.statements) _ found.gave crm.goes_on in
+    let made : found.gave ≡ record { lines = words.gave; marks = marks.gave; crm = crm.gave; leaves = leaves.gave } = cc in
+    let goes_on = rw made at found.goes_on in
+    let cluster = passed cause.Cluster (resolution_of leaves.gave crm.gave.statements) _ whole goes_on in
+    let head = passed_on (head_of crm.gave cluster.gave (status_lines marks.gave words.gave)) (λ (head : Head). with_results head (following_lines marks.gave words.gave)) whole cluster.goes_on in
+    record {
+      lines = words.gave;
+      marks = marks.gave;
+      crm = crm.gave;
+      leaves = leaves.gave;
+      cluster = cluster.gave;
+      head = head.gave;
+      are = words.is;
+      placed = marks.is;
+      statements = crm.is;
+      expands = leaves.is;
+      resolves = cluster.is;
+      made = head.is;
+      behind = head.goes_on;
+    }
+
+results_read : (head : Head) (lines : List Line) (whole : Input) → with_results head lines ≡ Ok whole
+    → (whole.head ≡ head) × (results_of head.cluster (moment_of head.journal.events) lines ≡ Ok whole.results)
+unfolding with_results
+results_read head lines whole e =
+    let answers = passed cause.Results (results_of head.cluster (moment_of head.journal.events) lines) _ whole e in
+    let made : whole ≡ record { head = head; results = answers.gave } = cc in
+    rw made (refl, answers.is)
+
+input_of_parts : (text : List ℕ) (whole : Input) (rows others : List Line) (mark : Line) (p : InputParts text whole) → p.lines ≡ rows ++ mark ∷ others → list_any results_line rows ≡ false
+    → position_or_len results_line (rows ++ mark ∷ others) ≡ length rows → IsInputOf rows others whole
+input_of_parts text whole rows others mark p same none last =
+    let there = are_marks (misplaced (codes "%results") [] (rows ++ mark ∷ others)) _ p.marks (subst (λ (ls : List Line). sections_of ls ≡ Ok p.marks) same p.placed) in
+    let at : p.marks.status_at ≡ position_or_len status_line rows
+    = sym (ap (λ (m : SectionMarks). m.status_at) there.same)
+    ∙ (ap (λ (n : ℕ). min (position_or_len status_line (rows ++ mark ∷ others)) n) last ∙ first_in_front status_line rows (mark ∷ others)) in
+    let end : p.marks.results_at ≡ length rows = sym (ap (λ (m : SectionMarks). m.results_at) there.same) ∙ last in
+    let to : p.marks.end ≡ length (rows ++ mark ∷ others) = sym (ap (λ (m : SectionMarks). m.end) there.same) in
+    let read = results_read p.head (following_lines p.marks p.lines) whole p.behind in
+    record {
+      head = record {
+        placed = (misplaced_parts (codes "%results") [] rows (mark ∷ others) there.none).0;
+        unended = none;
+        crm = p.crm;
+        leaves = p.leaves;
+        cluster = p.cluster;
+        statements = front_stated rows (mark ∷ others) p.lines p.marks.status_at p.crm same at p.statements;
+        expands = p.expands;
+        resolves = p.resolves;
+        made = front_made rows (mark ∷ others) p.lines p.marks.status_at p.marks.results_at p.crm p.cluster p.head whole.head same at end (sym read.0) p.made;
+      };
+      results =
+          subst (λ (h : Head). results_of h.cluster (moment_of h.journal.events) others ≡ Ok whole.results) (sym read.0)
+          (lines_behind rows others p.lines mark p.marks.results_at p.marks.end
+          (λ (ls : List Line). results_of p.head.cluster (moment_of p.head.journal.events) ls ≡ Ok whole.results) same end to read.1);
+    }
+
+pub head_of_input : (text : List ℕ) (whole : Input) (rows others : List Line) (mark : Line) → ReadsInput text whole → reads text ≡ Ok (rows ++ mark ∷ others) → list_any results_line rows ≡ false
+    → position_or_len results_line (rows ++ mark ∷ others) ≡ length rows → IsInputOf rows others whole
+head_of_input text whole rows others mark r are none last =
+    let p = input_parts text whole r in
+    input_of_parts text whole rows others mark p (same_ok p.lines (rows ++ mark ∷ others) (sym p.are ∙ are)) none last
+
+-- what is read of a whole input: its lines, and their sections
+pub lines_of_input : (text : List ℕ) (whole : Input) → ReadsInput text whole → HasStarted text
+lines_of_input text whole r =
+    let p = input_parts text whole r in
+    record { lines = p.lines; are = p.are; placed = (are_marks (misplaced (codes "%results") [] p.lines) _ p.marks p.placed).none }

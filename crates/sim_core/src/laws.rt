@@ -1,11 +1,11 @@
 //! Laws of the definitions. Each is a function that does nothing, and whose contract is the law.
 
-ghost use Rattle.std.specs.Prelude.{◌≡◌, ◌≢◌, ◌++◌, ℕ, Some, None, List, true};
+ghost use Rattle.std.specs.Prelude.{◌≡◌, ◌≢◌, ◌≤◌, ◌++◌, ℕ, Some, None, List, length, true};
 ghost use Rattle.cluster_types.specs.declared.cluster.Cluster.{Cluster as ClusterOf};
 ghost use Rattle.cluster_types.specs.declared.journal.Journal.{Journal as JournalOf};
 ghost use Rattle.cluster_types.specs.Valid.{IsValid};
 ghost use Rattle.crm_print.specs.Again.{has_short_lines};
-ghost use Rattle.input_reading.specs.Reading.{ReadsInput};
+ghost use Rattle.input_reading.specs.Reading.{ReadsInput, most_bytes};
 ghost use Rattle.input_reading.specs.declared.input.reading.Head.{Head as HeadOf};
 ghost use Rattle.input_reading.specs.declared.input.reading.Input.{Input as InputOf};
 ghost use Rattle.live_run.specs.Coming.{Coming};
@@ -18,7 +18,7 @@ ghost use Rattle.sim_core.specs.Generated.{IsSummaryText};
 ghost use Rattle.sim_core.specs.Headline.{IsSafeOutput};
 ghost use Rattle.sim_core.specs.Replay.{IsReplayOutput, coming_behind};
 ghost use Rattle.sim_core.specs.SafeTexts.{IsSummaryOfSafeRun, IsTextOfSafeWorld};
-ghost use Rattle.sim_core.specs.Traced.{IsHeadBefore, results_begin, with_result_section};
+ghost use Rattle.sim_core.specs.Traced.{AreWholeLines, ComesLineByLine, IsHeadBefore, results_begin, with_result_section};
 ghost use Rattle.sim_core.specs.World.{IsWorldOf};
 ghost use Rattle.sim_core.specs.declared.status.Status.{Status as StatusOf};
 
@@ -59,9 +59,11 @@ pub fn summaries_are_unique()
 {}
 
 /// What `replay` takes from its input line by line is what the other words read of it whole: where no line behind the head is refused or goes past the limit,
-/// the input is read as the same head, and as the answers that came.
+/// the input is read as the same head, and as the answers that came. And of an input that is read whole, within the limit of bytes, just these come.
 pub fn what_comes_is_the_input()
-    ensures { (front results : List ℕ) (head : HeadOf) (next room : ℕ) → IsHeadBefore front results head next room
+    ensures comes { (front results : List ℕ) (whole : InputOf) → AreWholeLines front → ReadsInput (with_result_section front results) whole
+        → length (with_result_section front results) ≤ most_bytes → ComesLineByLine front results whole }
+    ensures is_input { (front results : List ℕ) (head : HeadOf) (next room : ℕ) → IsHeadBefore front results head next room
         → (coming_behind (with_result_section front results) (front ++ results_begin) head next room).stop ≡ None
         → ReadsInput (with_result_section front results)
         (record { head = head; results = (coming_behind (with_result_section front results) (front ++ results_begin) head next room).results }) }

@@ -126,7 +126,7 @@ module _ (c : Cluster) where
   after_op Demote leaf before = demoted before
   after_op Monitor leaf before = before
 
-  -- the cells when an action has begun. Once a migration is sent, its leaf runs on the target too, if it is there on the source
+  -- the cells when an action has begun. When its migrate_to begins, a leaf that is there on the source runs on the target too
   abbrev pub begun : Action → Cells → Cells
   begun (MigrateTo leaf source target) cells =
       if is_there (found_at c cells leaf source) then with_changed_cell leaf target (λ x. real.Started) cells else cells

@@ -37,7 +37,7 @@ use Rattle.crm_parse.proofs.Grammar.PrimitiveRelated.{primitive-is_read, primiti
 use Rattle.crm_parse.proofs.Grammar.SettingsRelated.{settings-are_read, settings-are_said}
 
 -- the statement that a first word begins
-data Begins : List ℕ → Keyword → Type 0 where
+pub data Begins : List ℕ → Keyword → Type 0 where
   a_node : Begins (codes "node") keyword.Node
   a_primitive : Begins (codes "primitive") keyword.Primitive
   a_group : Begins (codes "group") keyword.Group
@@ -88,7 +88,7 @@ kept-begins word k e s =
 settings-begin : (word text : List ℕ) (what : SettingsWord) (k : Keyword) → SettingsWordSays text what → is word text ≡ true → keyword.Settings what ≡ k → Begins word k
 settings-begin word text what k h e s = is_word word text k (keyword.Settings what) (some_settings text what h) e s
 
-begins : (word : List ℕ) (k : Keyword) → keyword_of word ≡ Ok k → Begins word k
+pub begins : (word : List ℕ) (k : Keyword) → keyword_of word ≡ Ok k → Begins word k
 unfolding keyword_of
 begins word k e =
     step (is word (codes "node")) keyword.Node _ k e (λ h s. is_word word (codes "node") k _ a_node h s) (λ e.

@@ -22,7 +22,7 @@ use std::alloc::Global;
 /// and an answer that applies then makes the next due. Where nothing more is said, the run is over.
 ///
 /// Of each transition its targets and reasons are kept, with the positions of its events in the journal. `NoMemory` comes
-/// when memory runs out, or where the journal has 2^32 events or more, so that a position wouldn't fit.
+/// when memory runs out, or where the journal has 2^32 events or more, so that a position wouldn't fit. No watcher stops it.
 ///
 /// It asks for a valid cluster, for a journal in order with nothing in flight, as a status gives it, and for a moment in
 /// seconds that fits 64 bits.

@@ -19,9 +19,9 @@ use std::alloc::Global;
 /// an aborted transition the next is due; after a complete one the source is asked while nothing is to be done, and an answer
 /// that applies then makes the next due. Where nothing more is said, the run is over.
 ///
-/// The watcher is told each line as it happens, and that the source is asked unless what it says is at hand. Out of memory comes between two transitions alone, so that a transition that
-/// was told is carried out. The last plan is kept, and serves again while the journal tells the same states; the journal is
-/// read once.
+/// The watcher is told each line as it happens, and that the source is asked, unless what it says is at hand. Out of memory
+/// comes between two transitions alone, so that a transition that was told is carried out. The last plan is kept, and serves
+/// again while the journal tells the same states; the journal is read once.
 ///
 /// It asks for a valid cluster, for a journal in order with nothing in flight, as a status gives it, for a moment in seconds
 /// that fits 64 bits, and for a watcher of the lines of this cluster.

@@ -11,9 +11,10 @@ use crate::transition::executor::Executor;
 use crate::transition::outcomes::Outcomes;
 use crate::transition::watcher::{Heard, Unwatched, Watcher};
 
-/// Carries the transition out to its end: all that may begin, begins before an answer is taken, and a watcher is told of
-/// each step, and before the source may keep it waiting. When it stops, nothing more begins or is taken. After `Unexpected`, `SourceFault` or `Stopped` the executor
-/// holds the steps so far, and a further call goes on from there. It takes no memory.
+/// Carries the transition out to its end: all that may begin, begins before an answer is taken. A watcher is told each step,
+/// and that the source is asked, unless what it says is at hand. When the watcher stops, nothing more begins or is taken.
+/// After `Unexpected`, `SourceFault` or `Stopped` the executor holds the steps so far, and a further call goes on from there.
+/// It takes no memory.
 pub fn run_watched<S: Outcomes, V: Watcher>(
     executor: &mut Executor<'_>,
     outcomes: &mut S,

@@ -27,7 +27,7 @@ pub record EachLineSays {A : Type 0} (Says : List A → Line → A → Type 0) (
   pub many : length values ≡ length lines
   pub each : (k : ℕ) (line : Line) (value : A) → slice_get lines k ≡ Some line → slice_get values k ≡ Some value → Says (take k values) line value
 
--- each line before one of this number says its value, and of that one and this cause it holds that it is refused
+-- each line before one of this number says its value, and that one is refused, by `Refused`, with this cause
 pub record IsFirstRefused {A C : Type 0} (Says : List A → Line → A → Type 0) (Refused : List A → Line → C → Type 0) (lines : List Line) (number : ℕ) (cause : C)
     : Type 0 where
   pub front : List Line

@@ -309,8 +309,8 @@ fn input_of(alloc: Global, text: Vec<u8>) -> Result<Input, InputFault>
 /// that the reader of that step gives. `NoMemory` comes when memory runs out. The text goes back to memory after the first step.
 ///
 /// The lines of the configuration say its statements, and those of the status and the result lines what is read of them, each its part, by the
-/// forms in `specs/Grammar` here and of `crm_parse`. When one of them is at fault, those before it do, and none of the forms has its words,
-/// unless it is `Repeated` or behind too many results.
+/// forms in `specs/Grammar` here and of `crm_parse`. When one of them is at fault, those before it do. None of the forms has its words; or it is
+/// `Repeated`, or behind too many results; or `expand` or `resolve` refuses its statement.
 ///
 /// What is read is valid: the cluster is, and the first journal is in order, has nothing in flight and a moment below 2^40 seconds. There are at
 /// most 10,000 result lines.

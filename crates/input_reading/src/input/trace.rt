@@ -104,8 +104,8 @@ fn trace_of(alloc: Global, text: Vec<u8>) -> Result<Trace, InputFault>
 /// Reads a whole input with a trace, of at most 16,777,216 bytes.
 ///
 /// It is read as `read_input` reads one with results, and the lines of its trace as those of a run, the last step. So their faults come behind
-/// all others. The lines of its configuration, its status and its run say what is read, each its part, or none of the forms in `specs/Grammar` here
-/// and of `crm_parse` has the words of the line at fault. What is read is valid in the same way, and each rule that the run says to hold a leaf back has a name.
+/// all others. The lines of its configuration, its status and its run say what is read, each its part; a line at fault is refused as `read_input`
+/// says. What is read is valid in the same way, and each rule that the run says to hold a leaf back has a name.
 pub fn read_trace(alloc: Global, text: Vec<u8>) -> Result<Trace, InputFault>
     requires { length text.items ≤ most_bytes }
     ensures read { Gives (λ trace. trace) result (trace_of text.items) }
