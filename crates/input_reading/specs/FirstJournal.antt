@@ -13,10 +13,10 @@ use Rattle.faults.specs.declared.fault.Fault.TheVariants.{At}
 use Rattle.faults.specs.Reading.{◌>>=◌, faulting, on_line}
 use Rattle.input_reading.specs.declared.history_fault.StatusCause.{StatusCause}
 use Rattle.input_reading.specs.declared.history_fault.StatusCause.TheVariants.{Form, Repeated}
-use Rattle.input_reading.specs.declared.status.told.NodeWord.{NodeWord}
-use Rattle.input_reading.specs.declared.status.told.NodeWord.TheVariants as said
-use Rattle.input_reading.specs.declared.status.told.Told.{Told}
-use Rattle.input_reading.specs.declared.status.told.Told.TheVariants.{Now, Quorum, Node, Past, Promoting}
+use Rattle.input_reading.specs.declared.status.line_meaning.NodeWord.{NodeWord}
+use Rattle.input_reading.specs.declared.status.line_meaning.NodeWord.TheVariants as said
+use Rattle.input_reading.specs.declared.status.line_meaning.Told.{Told}
+use Rattle.input_reading.specs.declared.status.line_meaning.Told.TheVariants.{Now, Quorum, Node, Past, Promoting}
 use Rattle.input_reading.specs.Status.{told_of}
 
 abbrev pub is_promotion_of_same_cell : Promotion → Promotion → Bool

@@ -1,6 +1,6 @@
 use Rattle.std.proofs.Common.{◌≡◌, ℕ, ◌*◌, ◌==◌, ◌&&◌, nat_lt, false, length}
 use Rattle.simulated.specs.Inner.Firsts.{IsSaidOf}
-use Rattle.simulated.proofs.heard.forget_node.Given as goal
+use Rattle.simulated.proofs.heard_cells.forget_node.Given as goal
 
 abbrev pub invariant-loop-leaf : goal.invariant-loop-leaf
 invariant-loop-leaf l = record {

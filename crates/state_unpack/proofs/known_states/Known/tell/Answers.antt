@@ -1,5 +1,5 @@
 use Rattle.state_unpack.proofs.JournalSoFar.{knows-more}
-use Rattle.state_unpack.proofs.known.Known.tell.Goals as goal
+use Rattle.state_unpack.proofs.known_states.Known.tell.Goals as goal
 
 pub returns-clause-known : goal.returns-clause-known
 returns-clause-known c = λ of es knows.

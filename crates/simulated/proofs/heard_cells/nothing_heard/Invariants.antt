@@ -1,5 +1,5 @@
 use Rattle.std.proofs.Common.{◌≡◌, ◌≤◌, ◌-◌, false, length, replicate}
-use Rattle.simulated.proofs.heard.nothing_heard.Given as goal
+use Rattle.simulated.proofs.heard_cells.nothing_heard.Given as goal
 
 abbrev pub invariant-loop-heard : goal.invariant-loop-heard
 invariant-loop-heard l = record {

@@ -2,7 +2,7 @@ use Rattle.std.proofs.Common.{rules, ◌≡◌, ◌∙◌}
 use Rattle.state_unpack.specs.CellsKept.{states_from}
 use Rattle.state_unpack.specs.Known.{knowledge}
 use Rattle.state_unpack.proofs.JournalSoFar.{states-known}
-use Rattle.state_unpack.proofs.known.Known.states.Goals as goal
+use Rattle.state_unpack.proofs.known_states.Known.states.Goals as goal
 
 pub returns : goal.returns
 returns c = λ of es knows.

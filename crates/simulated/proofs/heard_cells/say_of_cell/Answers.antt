@@ -1,6 +1,6 @@
 use Rattle.std.proofs.Common.{◌<◌, length, arith}
 use Rattle.simulated.proofs.Hearing.{said-one}
-use Rattle.simulated.proofs.heard.say_of_cell.Goals as goal
+use Rattle.simulated.proofs.heard_cells.say_of_cell.Goals as goal
 
 pub returns-then-node-nodes : goal.returns-then-node-nodes
 returns-then-node-nodes c =

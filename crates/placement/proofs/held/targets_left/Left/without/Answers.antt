@@ -2,7 +2,7 @@ use Rattle.std.proofs.Common.{◌==◌, ◌&&◌, if◌then◌else◌, ◌∙◌
 use Rattle.cluster_types.specs.declared.placement.Target.{Target}
 use Rattle.cluster_types.specs.Tables.{targets_of}
 use Rattle.placement.proofs.FewerRoles.{fewer, in_table, on_node}
-use Rattle.placement.proofs.held.left.Left.without.Goals as goal
+use Rattle.placement.proofs.held.targets_left.Left.without.Goals as goal
 
 pub with_target-requires-clause-on_node : goal.with_target-requires-clause-on_node
 with_target-requires-clause-on_node c = on_node c.args.self.table c.args.leaf c.args.role c.args.node c.requires

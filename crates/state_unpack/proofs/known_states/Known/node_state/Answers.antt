@@ -2,7 +2,7 @@ use Rattle.std.proofs.Common.{rules, ◌≡◌, ◌∙◌}
 use Rattle.state_unpack.specs.CellsKept.{node_from}
 use Rattle.state_unpack.specs.Known.{knowledge}
 use Rattle.state_unpack.proofs.JournalSoFar.{node-known}
-use Rattle.state_unpack.proofs.known.Known.node_state.Goals as goal
+use Rattle.state_unpack.proofs.known_states.Known.node_state.Goals as goal
 
 pub returns : goal.returns
 returns c = λ of es knows.

@@ -2,7 +2,7 @@ use Rattle.std.proofs.Common.{sym, subst, take}
 use Rattle.std.proofs.lemmas.List.{take_more}
 use Rattle.cluster_types.specs.declared.journal.Event.TheVariants.{Up}
 use Rattle.simulated.specs.Inner.Firsts.{HearsOutcomes}
-use Rattle.simulated.proofs.heard.heard_of.Goals as goal
+use Rattle.simulated.proofs.heard_cells.heard_of.Goals as goal
 
 pub loop-event-preserved : goal.loop-event-preserved
 loop-event-preserved c =

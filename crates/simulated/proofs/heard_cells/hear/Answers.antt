@@ -2,7 +2,7 @@ use Rattle.std.proofs.Common.{◌≡◌, ◌==◌, true, false, refl}
 use Rattle.cluster_types.specs.Cells.{is_of_cell, is_same_cell}
 use Rattle.cluster_types.specs.Outcomes.{is_ignored}
 use Rattle.simulated.proofs.Hearing.{forgets, hears, hears-said, hears-still, passes_over}
-use Rattle.simulated.proofs.heard.hear.Goals as goal
+use Rattle.simulated.proofs.heard_cells.hear.Goals as goal
 
 pub returns-in-Up-clause-heard : goal.returns-in-Up-clause-heard
 returns-in-Up-clause-heard c = λ es h.

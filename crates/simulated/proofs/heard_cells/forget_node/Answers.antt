@@ -3,7 +3,7 @@ use Rattle.std.proofs.lemmas.Bool.Decides.{nat_tests}
 use Rattle.cluster_types.specs.Cells.{is_same_cell}
 use Rattle.state_unpack.proofs.Told.{leaf_by_leaf}
 use Rattle.simulated.proofs.Hearing.{said-as, said-more, said-none}
-use Rattle.simulated.proofs.heard.forget_node.Goals as goal
+use Rattle.simulated.proofs.heard_cells.forget_node.Goals as goal
 
 pub loop-leaf-init : goal.loop-leaf-init
 loop-leaf-init c = record {
