@@ -43,6 +43,7 @@ module _ {A : Type 0} (s : OutcomesOf A) (old new : A) where
   pub record SourceLasts (word : LastWord) : Type 0 where
     pub whole : s.whole new ≡ s.whole old
     pub count : s.faults old ≤ s.faults new
+    pub answered : s.answered old ≤ s.answered new
     pub cause : IsFailureCounted (s.faults old) (s.faults new) word
     pub careful : s.careful new ≡ s.careful old
     pub steady : s.steady new ≡ s.steady old
