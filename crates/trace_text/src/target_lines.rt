@@ -26,13 +26,13 @@ pub struct TargetLines<'a> {
 impl<'a> Model for TargetLines<'a> {
     ghost use Rattle.std.specs.Prelude.{List};
     ghost use Rattle.cluster_types.specs.declared.run.RunLine.{RunLine as RunLineOf};
-    ghost use Rattle.trace_text.specs.Inner.TargetWalk.{AreTold, lines_from};
+    ghost use Rattle.trace_text.specs.Inner.TargetWalk.{CanBeTold, lines_from};
 
     ghost Value = { List RunLineOf };
 
     ghost view = { λ lines. lines_from lines.cluster.now lines.placed.now lines.place };
 
-    ghost invariant = { λ lines. AreTold lines.cluster.now lines.placed.now };
+    ghost invariant = { λ lines. CanBeTold lines.cluster.now lines.placed.now };
 }
 
 impl<'a> TargetLines<'a> {

@@ -73,7 +73,7 @@ abbrev pub AreReasonsNamed : List (Option NoReason) → Type 0
 AreReasonsNamed none = (r : ℕ) (id : List ℕ) → slice_get none r ≡ Some (Some (Held id)) → is_name id ≡ true
 
 -- what the lines of a placement ask for, to be told one by one
-pub record AreTold (c : Cluster) (placed : Placed) : Type 0 where
+pub record CanBeTold (c : Cluster) (placed : Placed) : Type 0 where
   pub limits : KeepsLimits c
   pub named : AreReasonsNamed placed.none
 
