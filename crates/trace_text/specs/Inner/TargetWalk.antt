@@ -10,6 +10,7 @@ use Rattle.cluster_types.specs.declared.placement.Target.{Target}
 use Rattle.cluster_types.specs.declared.run.RunLine.{RunLine}
 use Rattle.cluster_types.specs.Tables.{targets_of}
 use Rattle.cluster_types.specs.Texts.{goal_line, lacking_lines, leaf_lines, pin_lines}
+use Rattle.cluster_types.specs.Valid.{KeepsLimits}
 use Rattle.crm_lex.specs.Names.{is_name}
 use Rattle.trace_text.specs.RunLines.{lent_line}
 use Rattle.trace_text.specs.declared.run_line_ref.RunLineRef.{RunLineRef}
@@ -57,18 +58,24 @@ next_place c at = behind at.column
     behind (column.Goal n) = record { leaf = at.leaf; column = if nat_lt n (length c.nodes) then column.Goal (n + 1) else column.Reason }
     behind column.Reason = record { leaf = at.leaf + 1; column = column.Pin }
 
--- how many places are left at most
+-- how many places of a leaf come before a column
 abbrev pub column_rank : Cluster → LineColumn → ℕ
 column_rank c column.Pin = 0
 column_rank c (column.Goal n) = 1 + (if nat_lt n (length c.nodes) then n else length c.nodes)
 column_rank c column.Reason = length c.nodes + 2
 
+-- how many places are left at most
 abbrev pub places_left : Cluster → LinePlace → ℕ
 places_left c at = (length c.leaves - at.leaf) * (length c.nodes + 3) - column_rank c at.column
 
 -- the id of each rule that holds a leaf back is a name
 abbrev pub AreReasonsNamed : List (Option NoReason) → Type 0
 AreReasonsNamed none = (r : ℕ) (id : List ℕ) → slice_get none r ≡ Some (Some (Held id)) → is_name id ≡ true
+
+-- what the lines of a placement ask for, to be told one by one
+pub record CanBeTold (c : Cluster) (placed : Placed) : Type 0 where
+  pub limits : KeepsLimits c
+  pub named : AreReasonsNamed placed.none
 
 -- a line that is found there, if one is
 abbrev pub IsLineFound : Option RunLineRef → List RunLine → Type 0
