@@ -113,7 +113,7 @@ first_all : (n : ℕ) (group : List (List ℕ)) → StandsAt (lines.first_lex_fa
 first_all n [] = tt
 first_all n (line ∷ group) = first_of (byte_faults n line) (all_byte_faults (n + 1) group) (first_bytes n line) (first_all (n + 1) group)
 
-first_group : (n : ℕ) (group : List (List ℕ)) → StandsAt (lines.first_lex_fault (faults n group))
+pub first_group : (n : ℕ) (group : List (List ℕ)) → StandsAt (lines.first_lex_fault (faults n group))
 first_group n [] = tt
 first_group n (line ∷ group) =
     let all = line ∷ group in

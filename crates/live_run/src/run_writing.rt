@@ -13,7 +13,7 @@ use crate::held_text::HeldText;
 use crate::line_stop::LineCause;
 use cluster_io::{Sink, WriteFault, write_text};
 use cluster_types::{Cluster, Placed};
-use trace_text::{LineBuf, LinePlace, RunLineRef, next_target_line, write_line, write_refusal};
+use trace_text::{LineBuf, RunLineRef, TargetLines, write_line, write_refusal};
 
 /// All that is held back leaves, by one `write_text`.
 pub(crate) fn flush<W: Sink>(sink: &mut W, held: &mut HeldText) -> Result<(), WriteFault>
@@ -87,8 +87,8 @@ pub(crate) fn put_plan<W: Sink>(
         buf,
         &RunLineRef::Transition(transition),
     )?;
-    let mut place = LinePlace::FIRST;
-    while let Some(line) = next_target_line(cluster, placed, &mut place) {
+    let mut lines = TargetLines::new(cluster, placed);
+    while let Some(line) = lines.next() {
         put(cluster, sink, held, buf, &line)?;
     }
     Ok(())

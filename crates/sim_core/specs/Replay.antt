@@ -31,7 +31,7 @@ abbrev pub coming_behind : List ℕ → List ℕ → Head → ℕ → ℕ → Co
 coming_behind input bytes head next room =
     coming head.cluster longest_line (record { moment = moment_of head.journal.events; before = 0; line = next }) room (raw_lines (drop (length bytes) input))
 
--- the head has a fault: its first line that can't be cut into words; or, where there is none, the fault of what it says
+-- the head has a fault: its first line that can't be cut into words; or, where there is none, the first fault of its text
 pub data IsHeadFault (input : List ℕ) : ℕ → InputCause → Type 0 where
   lacks_words : (line : ℕ) (why : InputCause) → head_in input ≡ heads.refused line why → IsHeadFault input line why
   says_nothing : (bytes : List ℕ) (next room line : ℕ) (why : InputCause) → head_in input ≡ heads.taken bytes next room → start_of bytes ≡ Err (At line why)
