@@ -122,17 +122,17 @@ results_on c start room at so_far out (group ∷ groups) own moment before clean
     of_words [] e later = later (record { moment = at.moment; before = at.before; line = at.line + length group }) so_far moment before parts.1 e left
     of_words (word ∷ words) e later =
         let (more, is, rest) = bind-ok (with_result c start so_far (record { line = at.line; words = word ∷ words }))
-            (λ (more : List ResultLine). with_result_lines c start more (rows_from (at.line + length group) groups)) out e in
+        (λ (more : List ResultLine). with_result_lines c start more (rows_from (at.line + length group) groups)) out e in
         let (given, found, made) = bind-ok (result_of c (moment_after start so_far) (length so_far) at.line (word ∷ words))
-            (λ (given : Answer). Ok (so_far ++ record { line = at.line; answer = given } ∷ [])) more is in
+        (λ (given : Answer). Ok (so_far ++ record { line = at.line; answer = given } ∷ [])) more is in
         let one : ResultLine = record { line = at.line; answer = given } in
         let grown : more ≡ so_far ++ one ∷ [] = (let f : so_far ++ one ∷ [] ≡ more = cc in sym f) in
         let here : result_of c at.moment at.before at.line (word ∷ words) ≡ Ok given
         = subst (λ (m : ℕ). result_of c m at.before at.line (word ∷ words) ≡ Ok given) (sym moment)
-            (subst (λ (m : ℕ). result_of c (moment_after start so_far) m at.line (word ∷ words) ≡ Ok given) (sym before) found) in
+        (subst (λ (m : ℕ). result_of c (moment_after start so_far) m at.line (word ∷ words) ≡ Ok given) (sym before) found) in
         let joint = sum_by-append (λ (result : ResultLine). seconds_in result.answer) so_far (one ∷ []) in
         let longer = length-append so_far (one ∷ []) in
         let to : Place = record { moment = at.moment + seconds_in given; before = at.before + 1; line = at.line + length group } in
         let come = later to (so_far ++ one ∷ []) (omega (arith, moment, joint)) (omega (arith, before, longer)) parts.1
-            (subst (λ (rs : List ResultLine). with_result_lines c start rs (rows_from (at.line + length group) groups) ≡ Ok out) grown rest) left in
+        (subst (λ (rs : List ResultLine). with_result_lines c start rs (rows_from (at.line + length group) groups) ≡ Ok out) grown rest) left in
         subst Wanted (sym (ap answer_says here)) (record { all = come.all ∙ append_assoc so_far (one ∷ []) (behind (said.Answer given)).results; unstopped = come.unstopped })

@@ -21,6 +21,7 @@ use Rattle.live_run.specs.declared.line_stop.LineStop.TheVariants as why
 use Rattle.input_reading.specs.declared.results.result_lines.ResultLine.{ResultLine}
 use Rattle.run_safety.specs.Followed.{EndsBetween, IsFront}
 use Rattle.live_run.specs.LineCauses.{line_refusal_text}
+use Rattle.live_run.specs.Writing.{CutsShort}
 use Rattle.live_run.specs.Ends.{AsksForMore, EndGets, CutRunGives, run_lines_text}
 use Rattle.live_run.specs.declared.live_end.LiveEnd.{LiveEnd}
 use Rattle.live_run.specs.declared.live_end.LiveEnd.TheVariants as end
@@ -68,17 +69,19 @@ module _ (c : Cluster) (journal : Journal) (reading : Reading) (left : List ℕ)
     pub unstopped : asked.stop ≡ None
     pub none_left : after ≡ Some []
 
-  -- a call of the writer amid the run, behind these lines: it is told those of one step. The line that ends the transition may come right
-  -- behind them, and this call isn't told it. The run has taken these answers by then
+  -- a call of the writer amid the run, behind these lines: it is told the lines of one step, one by one, up to this one, and those behind it no more. Nor is it
+  -- told the line that ends the transition, which may come right behind the step. The run has taken these answers by then
   pub record CallInRun : Type 0 where
     pub printed : List RunLine
     pub told : List RunLine
+    pub at : RunLine
+    pub untold : List RunLine
     pub closing : List RunLine
     pub journal_now : List Event
     pub given : List ResultLine
     pub behind : List ResultLine
     pub split : results.results ≡ given ++ behind
-    pub run : IsStoppedRun c journal.promotions (is_none results.stop) journal.events (Some (answers_to_come results)) printed told closing journal_now
+    pub run : IsStoppedRun c journal.promotions (is_none results.stop) journal.events (Some (answers_to_come results)) printed (told ++ at ∷ untold) closing journal_now
         (Some (map (λ (r : ResultLine). r.answer) behind))
 
   -- the call that writes `unexpected LINE` of the answer behind these, which doesn't apply
@@ -118,7 +121,7 @@ module _ (c : Cluster) (journal : Journal) (reading : Reading) (left : List ℕ)
 
   -- the lines that were told before it
   abbrev pub lines_before_call : WriterCall → List RunLine
-  lines_before_call (in_run call) = call.printed
+  lines_before_call (in_run call) = call.printed ++ call.told
   lines_before_call (at_rest call) = call.printed
   lines_before_call (of_unexpected call) = call.printed
   lines_before_call (of_refusal call) = call.printed
@@ -132,7 +135,7 @@ module _ (c : Cluster) (journal : Journal) (reading : Reading) (left : List ℕ)
 
   -- what it adds to these
   abbrev pub text_of_call : WriterCall → List ℕ
-  text_of_call (in_run call) = run_lines_text c call.told
+  text_of_call (in_run call) = run_line c call.at
   text_of_call (at_rest call) = []
   text_of_call (of_unexpected call) = run_line c (line.Unexpected call.result.line)
   text_of_call (of_refusal call) = line_refusal_text call.line call.cause
@@ -167,12 +170,12 @@ module _ (c : Cluster) (journal : Journal) (reading : Reading) (left : List ℕ)
       pub no_answer : GivesNoAnswer (reading.room - length (bytes_of whole.lines)) reading.longest whole.held
       pub ran : IsRunOverLines whole.lines
 
-    -- the sink failed in one call: a front was written of the lines before it and of what it adds to these. No line was asked for since. It is a front of the
-    -- text that is due
+    -- the sink failed in one call: a front was written of the lines before it and of what it adds to these. Of the lines before it at most 65,536 bytes are
+    -- missing. No line was asked for since. It is a front of the text that is due
     pub record IsCutOff : Type 0 where
       pub call : WriterCall
       pub read : AskedFor (asked_by_call call) ⊎ AskedForAll (asked_by_call call)
-      pub front : AddsPrefix (run_lines_text c (lines_before_call call) ++ text_of_call call) old new
+      pub cut : CutsShort (run_lines_text c (lines_before_call call)) (text_of_call call) old new
       pub begins : (how : LiveEnd) (whole : List ℕ) → EndGets c journal results how whole → AddsPrefix whole old new
 
     -- memory ran out between two transitions: the lines up to there were written, none or ones that end with `complete K`, `aborted K` or an answer that came
