@@ -35,8 +35,8 @@ use Rattle.live_run.specs.Heads as heads
 use Rattle.live_run.specs.Saying.{answer_says, line_says, line_says_within, place_behind_said, read_says, sized_says, words_say}
 use Rattle.live_run.specs.declared.line_stop.LineStop.{LineStop}
 use Rattle.live_run.specs.declared.place.Place.{Place}
-use Rattle.live_run.specs.declared.said.Said.{Said}
-use Rattle.live_run.specs.declared.said.Said.TheVariants as said
+use Rattle.live_run.specs.declared.line_meaning.Said.{Said}
+use Rattle.live_run.specs.declared.line_meaning.Said.TheVariants as said
 use Rattle.live_run.proofs.LinesJoined.{both_none, count_physical, none_first}
 
 -- a line begins the results

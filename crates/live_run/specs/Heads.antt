@@ -18,8 +18,8 @@ use Rattle.live_run.specs.Followed.{bytes_of, count_lines}
 use Rattle.live_run.specs.declared.head.HeadStop.{HeadStop}
 use Rattle.live_run.specs.declared.head.HeadStop.TheVariants as stop
 
--- what a source gives as the head: its bytes, with the number of the line behind it and how many bytes lie within the limit there; the first line that
--- can't be cut into words, and why; or a line that goes past the limit
+-- what a source gives as the head: its bytes, with the number of the line behind it and how many of the bytes behind it lie within the limit; the first
+-- line that can't be cut into words, and why; or a line that goes past the limit
 pub data HeadVerdict : Type 0 where
   taken : (text : List ℕ) (next room : ℕ) → HeadVerdict
   refused : (line : ℕ) (why : InputCause) → HeadVerdict

@@ -50,6 +50,7 @@ pub record GivesNoAnswer (room longest : ℕ) (held : List ℕ) : Type 0 where
 
 -- of a run over these bytes, of which the source has some left now
 module _ (c : Cluster) (journal : Journal) (reading : Reading) (left : List ℕ) (after : Option (List ℕ)) where
+  -- what is to come of its result lines
   abbrev pub results : Coming
   results = results_behind c journal reading left
 
@@ -99,8 +100,8 @@ module _ (c : Cluster) (journal : Journal) (reading : Reading) (left : List ℕ)
     pub stop : results.stop ≡ Some (why.Refused line cause)
     pub run : AsksForMore c journal results printed
 
-  -- the call that writes what is held back where the run asks for an answer, or stands between two transitions. The run has taken answers by then. The
-  -- line that is refused, if one is, was asked for too, or none behind these
+  -- the call that writes what is held back where the run asks for an answer, or stands between two transitions. These answers were taken by then, and no
+  -- line behind them was asked for; or all answers were, and the line behind them that is refused was asked for too, if there is one
   pub record CallAtRest : Type 0 where
     pub printed : List RunLine
     pub at : RunStanding
@@ -148,7 +149,7 @@ module _ (c : Cluster) (journal : Journal) (reading : Reading) (left : List ℕ)
       pub gets : EndGets c journal results how text
       pub added : Adds old text new
 
-    -- the run took the answers of these lines, each of them and no other, and asks for one more: its lines were written
+    -- the run took the answers of these lines, each of them and no other, and asks for one more. No action has ended silently. Its lines were written
     pub record IsRunOverLines (lines : List (List (List ℕ))) : Type 0 where
       pub given : List ResultLine
       pub said : said_by c (first_result_place c journal reading) lines ≡ record { results = given; stop = None }
@@ -161,8 +162,8 @@ module _ (c : Cluster) (journal : Journal) (reading : Reading) (left : List ℕ)
       pub none_silent : IsRunSoFar c journal.promotions false journal.events (Some (map (λ (r : ResultLine). r.answer) given)) printed journal_now (Some [])
       pub added : Adds old (run_lines_text c printed) new
 
-    -- the source failed, behind some bytes that it gave: of these and those that were held before some lines were taken whole, the others give no answer
-    -- yet, and the run went over these lines
+    -- the source failed, behind some bytes that it gave: of the bytes that were held, and these, some lines were taken whole. The others give no answer yet,
+    -- and the run went over these lines
     pub record IsBrokenOff : Type 0 where
       pub bytes : List ℕ
       pub taken : TakesBytes (Some left) bytes after
