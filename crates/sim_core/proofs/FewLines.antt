@@ -1,5 +1,5 @@
 -- An input within the limit has few lines of a run, and they have few answers.
-use Rattle.std.proofs.Common.{arith, ◌≡◌, ◌≤◌, ◌<◌, ◌+◌, ◌-◌, ◌^◌, ℕ, zero, suc, List, [], ◌∷◌, ◌++◌, length, length-append, take, drop, Ok, sym, ap, subst, ◌∙◌}
+use Rattle.std.proofs.Common.{arith, ◌≡◌, ◌≤◌, ◌<◌, ◌+◌, ◌-◌, ◌^◌, ℕ, zero, suc, List, [], ◌∷◌, ◌++◌, length, length-append, take, drop, Ok, ap, subst}
 use Rattle.std.specs.Prelude.{slice_range}
 use Rattle.std.specs.List.{flat_map}
 use Rattle.crm_lex.specs.declared.line.Line.{Line}
@@ -12,14 +12,14 @@ use Rattle.input_reading.specs.declared.input.cause.InputCause.TheVariants as ca
 use Rattle.input_reading.specs.declared.input.reading.Head.{Head}
 use Rattle.input_reading.specs.declared.input.trace.Trace.{Trace}
 use Rattle.input_reading.specs.declared.run.text.RunTextLine.{RunTextLine}
-use Rattle.input_reading.specs.Reading.{configuration_lines, following_lines, line_behind, most_bytes, status_lines}
+use Rattle.input_reading.specs.Reading.{following_lines, line_behind, most_bytes}
 use Rattle.input_reading.specs.RunReading.{text_line, read_run_lines, with_run_lines}
 use Rattle.input_reading.specs.Sections.{sections_with_trace}
 use Rattle.input_reading.specs.Traces.{ReadsTrace, trace_of, with_run}
 use Rattle.input_reading.proofs.FewLines.{few_rows_read}
 use Rattle.input_reading.proofs.ValidInput.{passed}
 use Rattle.sim_core.specs.Lawful.{answer_in}
-use Rattle.sim_core.proofs.InputSteps.{by_sections, has_sections, head_first, steps_on}
+use Rattle.sim_core.proofs.InputSteps.{in_steps}
 
 -- each line says one thing
 count_run : (c : Cluster) (so_far : List RunTextLine) (lines : List Line) (out : List RunTextLine) → with_run_lines c so_far lines ≡ Ok out
@@ -52,16 +52,10 @@ few_behind after head lines trace e =
 few_lines : (text : List ℕ) (trace : Trace) → ReadsTrace text trace → length trace.run.lines ≤ length text
 unfolding trace_of
 few_lines text trace r =
-    let found = has_sections sections_with_trace (λ all. with_run (line_behind all)) text trace r in
-    let behind = following_lines found.marks found.lines in
-    let configuration = configuration_lines found.marks found.lines in
-    let status = status_lines found.marks found.lines in
-    let steps = by_sections sections_with_trace (λ all. with_run (line_behind all)) text found.lines found.marks found.are found.placed in
-    let apart = head_first configuration status (λ head. with_run (line_behind found.lines) head behind) in
-    let (head, is, follows) = bind-ok (steps_on configuration status (λ head. Ok head)) (λ head. with_run (line_behind found.lines) head behind) trace (sym apart ∙ (sym steps ∙ r)) in
-    let run = few_behind (line_behind found.lines) head behind trace follows in
-    let all = few_rows_read text found.lines found.are in
-    let part = few_there found.lines (found.marks.results_at + 1) found.marks.end in
+    let s = in_steps sections_with_trace (λ all. with_run (line_behind all)) text trace r in
+    let run = few_behind (line_behind s.found.lines) s.head (following_lines s.found.marks s.found.lines) trace s.follows in
+    let all = few_rows_read text s.found.lines s.found.are in
+    let part = few_there s.found.lines (s.found.marks.results_at + 1) s.found.marks.end in
     omega (arith, run, all, part)
   where
     few_there : (lines : List Line) (from to : ℕ) → length (slice_range lines from to) ≤ length lines

@@ -15,9 +15,11 @@ use Rattle.crm_parse.specs.Marks.{last_at, status_at}
 use Rattle.crm_parse.specs.Statements.{statements_of}
 use Rattle.faults.specs.declared.fault.Fault.{Fault}
 use Rattle.faults.specs.Reading.{caused, faulting, ◌>>=◌}
+use Rattle.faults.proofs.Steps.{bind-ok}
 use Rattle.input_reading.specs.declared.input.cause.InputCause.{InputCause}
 use Rattle.input_reading.specs.declared.input.cause.InputCause.TheVariants as cause
 use Rattle.input_reading.specs.declared.input.reading.Head.{Head}
+use Rattle.input_reading.specs.FirstJournal.{status_journal}
 use Rattle.input_reading.specs.Reading.{configuration_lines, configuration_of, following_lines, head_of, reading_steps, status_lines}
 use Rattle.input_reading.proofs.ValidInput.{passed, passed_on}
 use Rattle.sim_core.proofs.TraceSections.{first_in_front, first_within, nothing_past, range_behind, range_in_front, status_line}
@@ -95,6 +97,41 @@ module _ {X : Type 0} (sections : List Line → Result SectionMarks (Fault Parse
   unfolding configuration_of
   by_sections lines marks are placed =
       rw (are, placed) (gathered (faulting cause.Statements (statements_of (configuration_lines marks lines))) (λ crm. faulting cause.Leaves (expansion_of crm.statements)) _ _)
+
+  -- the head of a text that is read, and what follows
+  pub record ReadInSteps (read : X) : Type 0 where
+    pub found : HasSections sections text
+    pub head : Head
+    pub begins : steps_on (configuration_lines found.marks found.lines) (status_lines found.marks found.lines) (λ head. Ok head) ≡ Ok head
+    pub follows : read_on found.lines head (following_lines found.marks found.lines) ≡ Ok read
+
+  pub in_steps : (read : X) → reading_steps sections read_on text ≡ Ok read → ReadInSteps read
+  in_steps read r =
+      let found = has_sections read r in
+      let configuration = configuration_lines found.marks found.lines in
+      let status = status_lines found.marks found.lines in
+      let next : Head → Result X (Fault InputCause) = λ head. read_on found.lines head (following_lines found.marks found.lines) in
+      let apart = by_sections found.lines found.marks found.are found.placed ∙ head_first configuration status next in
+      let (head, begins, follows) = bind-ok (steps_on configuration status (λ head. Ok head)) next read (sym apart ∙ r) in
+      record { found = found; head = head; begins = begins; follows = follows }
+
+-- what the lines of a configuration and of a status give, which give a head
+pub record HasGiven (configuration : List Line) (head : Head) : Type 0 where
+  pub leaves : Leaves
+  pub stated : statements_of configuration ≡ Ok head.crm
+  pub expands : expansion_of head.crm.statements ≡ Ok leaves
+  pub resolves : resolution_of leaves head.crm.statements ≡ Ok head.cluster
+
+pub has_given : (configuration status : List Line) (head : Head) → steps_on configuration status (λ head. Ok head) ≡ Ok head → HasGiven configuration head
+unfolding head_of
+has_given configuration status head e =
+    let crm = passed cause.Statements (statements_of configuration) _ head e in
+    let leaves = passed cause.Leaves (expansion_of crm.gave.statements) _ head crm.goes_on in
+    let cluster = passed cause.Cluster (resolution_of leaves.gave crm.gave.statements) _ head leaves.goes_on in
+    let made = passed_on (head_of crm.gave cluster.gave status) (λ head. Ok head) head cluster.goes_on in
+    let journal = passed cause.Status (status_journal cluster.gave status) _ made.gave made.is in
+    let same : head ≡ record { crm = crm.gave; cluster = cluster.gave; journal = journal.gave } = cc in
+    rw same (record { leaves = leaves.gave; stated = crm.is; expands = leaves.is; resolves = cluster.is })
 
 -- the sections of lines by the word of the last one
 abbrev pub marks_by : List ℕ → List Line → SectionMarks

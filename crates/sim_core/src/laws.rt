@@ -61,10 +61,11 @@ pub fn summaries_are_unique()
 {}
 
 /// An accepted input is one notion, with and without `%status` and `%results`: what `replay` takes from an input line by line is what the other words read of it
-/// whole within the limit of bytes, the same cluster, first journal and answers. They refuse the same inputs within the limit. For the same line and cause, where
-/// the line can't be cut into words; and otherwise, in the head or behind it, where no line behind the head lacks words or begins with a percent sign, since such
-/// lines are looked for in all the input first. So of `lost nowhere` on line 5, behind `%results` on line 4, and an open quote on line 9 `replay` names line 5,
-/// and the other words name line 9. `replay` takes a result line only when its run asks for one: an unexpected answer on line 4 ends the run before.
+/// whole within the limit of bytes, the same cluster, first journal and answers. Within the limit both refuse the same inputs. They name the same line and cause
+/// where the line can't be cut into words, and where no line behind the head is at fault in this or begins with a percent sign. Words that read an input whole
+/// look for such lines in all of it first: where `%results` stands on line 4, `lost nowhere` on line 5 and an open quote on line 9, they name line 9, and `replay`
+/// line 5. What a run asks for is another matter: one that an unexpected answer cuts, or that has to stop for memory or a failed write, leaves the lines behind
+/// unread, whatever they say.
 pub fn what_comes_is_the_input()
     ensures accepted { (input : List ℕ) (whole : InputOf) → ((ReadsInput input whole) × (length input ≤ most_bytes)) ↔ ComesLineByLine input whole }
     ensures refused { (input : List ℕ) → length input ≤ most_bytes → IsFaultyText input ↔ HasRefusedLine input }
