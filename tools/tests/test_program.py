@@ -49,6 +49,12 @@ def try_answers():
         expect(f"the program: {name}", got == (status, output.encode(), b""), f"{got[0]}: {got[1][:300]!r}")
 
 
+def try_unlisted_words():
+    """A word that isn't UTF-8 can't be listed, and is refused as any other that isn't one."""
+    expect("the program: a word that isn't UTF-8", answer([b"\xff"])[:2] == (2, b""))
+    expect("the program: a word behind another that isn't UTF-8", answer(["check", b"\xff"], CLUSTER.encode())[:2] == (2, b""))
+
+
 def try_own_texts():
     """Help and version are those of a file of their own, and nothing is read for them."""
     for word in ("help", "version"):
@@ -87,6 +93,7 @@ def try_generated():
 
 def try_all(_folder):
     try_answers()
+    try_unlisted_words()
     try_own_texts()
     try_failing_streams()
     try_little_memory()

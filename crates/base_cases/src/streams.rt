@@ -117,39 +117,39 @@ fn interrupted_writes_to_std(rt: HostRuntime) {
     assert!(rt; interrupted_write(1, &mut []) == WriteStep::Failed);
 }
 
-/// Fails once, or takes nothing once, and then reads or writes as `inner` does.
+/// Moves nothing at its first call, or fails there, and then reads or writes as `inner` does.
 #[derive(Drop)]
-struct FailsOnce<T> {
-    failed: bool,
+struct AfterFirst<T> {
+    first: Option<Result<(), ErrorKind>>,
     inner: T,
 }
 
-impl<T> FailsOnce<T> {
-    fn new(inner: T) -> FailsOnce<T> {
-        FailsOnce {
-            failed: false,
+impl<T> AfterFirst<T> {
+    fn new(first: Result<(), ErrorKind>, inner: T) -> AfterFirst<T> {
+        AfterFirst {
+            first: Some(first),
             inner,
         }
     }
 }
 
-impl<R: Read> Read for FailsOnce<R> {
+impl<R: Read> Read for AfterFirst<R> {
     fn read(&mut self, buf: &mut [u8]) -> io::Result<usize> {
-        if !self.failed {
-            self.failed = true;
-            return Err(ErrorKind::TimedOut.into());
+        match self.first.take() {
+            Some(Ok(())) => Ok(0),
+            Some(Err(kind)) => Err(kind.into()),
+            None => self.inner.read(buf),
         }
-        self.inner.read(buf)
     }
 }
 
-impl<W: Write> Write for FailsOnce<W> {
+impl<W: Write> Write for AfterFirst<W> {
     fn write(&mut self, bytes: &[u8]) -> io::Result<usize> {
-        if !self.failed {
-            self.failed = true;
-            return Ok(0);
+        match self.first.take() {
+            Some(Ok(())) => Ok(0),
+            Some(Err(kind)) => Err(kind.into()),
+            None => self.inner.write(bytes),
         }
-        self.inner.write(bytes)
     }
 
     fn flush(&mut self) -> io::Result<()> {
@@ -160,18 +160,33 @@ impl<W: Write> Write for FailsOnce<W> {
 #[test]
 fn answers_a_failed_read(rt: HostRuntime) {
     let mut buf = [0u8; 4];
-    let mut source = StdSource::new(FailsOnce::new(b"ab".as_slice()));
+    let mut source = StdSource::new(AfterFirst::new(Err(ErrorKind::TimedOut), b"ab".as_slice()));
     assert!(rt; source.read(&mut buf) == ReadStep::Failed);
     assert!(rt; source.read(&mut buf) == ReadStep::Got(2));
     assert!(rt; source.read(&mut buf) == ReadStep::End);
 }
 
 #[test]
-fn answers_a_write_of_nothing(rt: HostRuntime) {
+fn reads_once_at_an_end(rt: HostRuntime) {
     let mut buf = [0u8; 4];
-    let mut sink = StdSink::new(FailsOnce::new(buf.as_mut_slice()));
-    assert!(rt; sink.write(b"xy") == WriteStep::Failed);
-    assert!(rt; sink.write(b"xy") == WriteStep::Took(2));
+    let mut reader = AfterFirst::new(Ok(()), b"ab".as_slice());
+    assert!(rt; StdSource::new(&mut reader).read(&mut buf) == ReadStep::End);
+    assert!(rt; reader.inner == b"ab".as_slice());
+    assert!(rt; StdSource::new(&mut reader).read(&mut buf) == ReadStep::Got(2));
+}
+
+/// Writes that move nothing at the first call, or fail there.
+const FIRST_WRITES: &[Result<(), ErrorKind>] = &[Ok(()), Err(ErrorKind::TimedOut)];
+
+#[test]
+fn writes_once_at_a_failure(rt: HostRuntime) {
+    for first in FIRST_WRITES {
+        let mut buf = [0u8; 4];
+        let mut writer = AfterFirst::new(*first, buf.as_mut_slice());
+        assert!(rt; StdSink::new(&mut writer).write(b"xy") == WriteStep::Failed);
+        assert!(rt; &*writer.inner == [0u8; 4].as_slice());
+        assert!(rt; StdSink::new(&mut writer).write(b"xy") == WriteStep::Took(2));
+    }
 }
 
 /// A new source of these bytes, of which a read gives at most `step`, and these reads fail, counted from 1.

@@ -1,3 +1,4 @@
+mod Attempts
 pub mod Inner
 pub mod HeldLines
 pub mod LineReaders

@@ -1,7 +1,8 @@
 ghost use Rattle.std.specs.Prelude.{◌≡◌, ◌≢◌, ℕ, true, ◌≤◌, ◌<◌, length, take, IfOk, IfErr};
 ghost use Rattle.std.specs.IoError.{error_kind};
 ghost use Rattle.std.specs.Io.KnownBytes.{Appends, Consumes, IsAtEnd, Keeps};
-ghost use Rattle.cluster_io.specs.Streams.{Bears};
+ghost use Rattle.cluster_io.specs.Streams.{Bears, next_fault};
+ghost use Rattle.cluster_io.specs.Attempts.{is_answer};
 
 use std::io;
 use std::io::{ErrorKind, Read, Write};
@@ -27,13 +28,21 @@ fn attempt_of(outcome: io::Result<usize>) -> Attempt
     }
 }
 
-/// A reader of std. Nothing but `attempt` calls it, and each call that fails or is interrupted is
-/// counted.
+/// The count of calls after one more, which stays at the last value of its counter.
+fn one_more(calls: u64) -> u64
+    ensures grows { calls ≤ result }
+    ensures next { result ≡ next_fault calls }
+{
+    calls.saturating_add(1)
+}
+
+/// A reader of std. Nothing but `attempt` calls it, and each call is counted by what it came to.
 #[derive(Drop)]
 pub(crate) struct ReaderCalls<R: Read> {
     reader: R,
     failures: u64,
     interruptions: u64,
+    answers: u64,
 }
 
 impl<R: Read> ReaderCalls<R> {
@@ -45,6 +54,7 @@ impl<R: Read> ReaderCalls<R> {
             reader,
             failures: 0,
             interruptions: 0,
+            answers: 0,
         }
     }
 
@@ -63,28 +73,32 @@ impl<R: Read> ReaderCalls<R> {
         ensures failures { Bears true (result ≡ Attempt.Failed) self.old.failures self.new.failures }
         ensures interruptions { Bears true (result ≡ Attempt.Interrupted)
             self.old.interruptions self.new.interruptions }
+        ensures answers { Bears true (is_answer result ≡ true) self.old.answers self.new.answers }
     {
         match attempt_of(self.reader.read(buf)) {
-            Attempt::Moved(count) => Attempt::Moved(count),
+            Attempt::Moved(count) => {
+                self.answers = one_more(self.answers);
+                Attempt::Moved(count)
+            }
             Attempt::Interrupted => {
-                self.interruptions = self.interruptions.saturating_add(1);
+                self.interruptions = one_more(self.interruptions);
                 Attempt::Interrupted
             }
             Attempt::Failed => {
-                self.failures = self.failures.saturating_add(1);
+                self.failures = one_more(self.failures);
                 Attempt::Failed
             }
         }
     }
 }
 
-/// A writer of std. Nothing but `attempt` calls it, and each call that fails or is interrupted is
-/// counted.
+/// A writer of std. Nothing but `attempt` calls it, and each call is counted by what it came to.
 #[derive(Drop)]
 pub(crate) struct WriterCalls<W: Write> {
     writer: W,
     failures: u64,
     interruptions: u64,
+    answers: u64,
 }
 
 impl<W: Write> WriterCalls<W> {
@@ -96,6 +110,7 @@ impl<W: Write> WriterCalls<W> {
             writer,
             failures: 0,
             interruptions: 0,
+            answers: 0,
         }
     }
 
@@ -113,17 +128,21 @@ impl<W: Write> WriterCalls<W> {
         ensures failures { Bears true (result ≡ Attempt.Failed) self.old.failures self.new.failures }
         ensures interruptions { Bears true (result ≡ Attempt.Interrupted)
             self.old.interruptions self.new.interruptions }
+        ensures answers { Bears true (is_answer result ≡ true) self.old.answers self.new.answers }
     {
         match attempt_of(self.writer.write(bytes)) {
             Attempt::Moved(0) | Attempt::Failed => {
-                self.failures = self.failures.saturating_add(1);
+                self.failures = one_more(self.failures);
                 Attempt::Failed
             }
             Attempt::Interrupted => {
-                self.interruptions = self.interruptions.saturating_add(1);
+                self.interruptions = one_more(self.interruptions);
                 Attempt::Interrupted
             }
-            Attempt::Moved(count) => Attempt::Moved(count),
+            Attempt::Moved(count) => {
+                self.answers = one_more(self.answers);
+                Attempt::Moved(count)
+            }
         }
     }
 }

@@ -48,7 +48,7 @@ impl<R: Read> StdSource<R> {
 }
 
 impl<R: Read> Source for StdSource<R> {
-    ghost use Rattle.cluster_io.specs.Standard.{Persists, has_source_ended, reader_of, reader_failures, reader_interruptions, source_faults};
+    ghost use Rattle.cluster_io.specs.Standard.{Persists, has_source_ended, reader_of, reader_answers, reader_failures, reader_interruptions, source_faults};
 
     ghost left = { λ _. None };
 
@@ -67,9 +67,11 @@ impl<R: Read> Source for StdSource<R> {
         ensures ended { has_source_ended self.new ≡ is_end result }
 
         // A failed call of the reader is answered so, and nothing else is but 1,000 interrupted ones.
+        // Any other answer is that of the one call that wasn't interrupted.
         ensures calls { Persists (result ≡ ReadStep.Failed)
             (reader_failures self.old) (reader_failures self.new)
-            (reader_interruptions self.old) (reader_interruptions self.new) }
+            (reader_interruptions self.old) (reader_interruptions self.new)
+            (reader_answers self.old) (reader_answers self.new) }
 
         // Where the reader's own bytes are known, these are they, and the end is theirs.
         ensures given { (n : ℕ) → result ≡ ReadStep.Got n →
@@ -131,7 +133,7 @@ impl<W: Write> StdSink<W> {
 }
 
 impl<W: Write> Sink for StdSink<W> {
-    ghost use Rattle.cluster_io.specs.Standard.{Persists, writer_of, writer_failures, writer_interruptions, sink_faults};
+    ghost use Rattle.cluster_io.specs.Standard.{Persists, writer_of, writer_answers, writer_failures, writer_interruptions, sink_faults};
 
     ghost written = { λ _. None };
 
@@ -146,9 +148,11 @@ impl<W: Write> Sink for StdSink<W> {
             (sink_faults self.old) (sink_faults self.new) }
 
         // A failed call of the writer is answered so, and nothing else is but 1,000 interrupted ones.
+        // Any other answer is that of the one call that wasn't interrupted.
         ensures calls { Persists (result ≡ WriteStep.Failed)
             (writer_failures self.old) (writer_failures self.new)
-            (writer_interruptions self.old) (writer_interruptions self.new) }
+            (writer_interruptions self.old) (writer_interruptions self.new)
+            (writer_answers self.old) (writer_answers self.new) }
 
         // Where it is known what the writer holds, it has gained these bytes.
         ensures held { (n : ℕ) → result ≡ WriteStep.Took n →

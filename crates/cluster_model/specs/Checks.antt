@@ -52,7 +52,7 @@ module _ (leaves : Leaves) where
   cant_take leaf action.Start = false
   cant_take leaf action.Stop = false
 
-  -- role Promoted, or an action promote or demote, at a leaf that isn't promotable
+  -- role Promoted, or an action promote or demote, at a leaf that isn't promotable. A role that a rule overrides isn't tested
   abbrev pub promotes_plain : Form → Bool
   promotes_plain (form.Location id resource written discovery score node) = cant_have (first_leaf leaves resource) (role_written written)
   promotes_plain (form.RuledLocation id resource written discovery rules) =
@@ -72,13 +72,13 @@ module _ (leaves : Leaves) where
 abbrev pub turns_down : OrderStep × OrderStep → Bool
 turns_down pair = not (is_down pair.0.action) && is_down pair.1.action
 
--- an order has two steps one after the other of which the second stops or demotes what waits for a start or a promote
+-- an order has two successive steps of which the first starts or promotes, and the second stops or demotes
 abbrev pub has_unsupported_pair : Form → Bool
 has_unsupported_pair (form.Order id kind steps symmetrical) = list_any turns_down (successive steps)
 has_unsupported_pair _ = false
 
 module _ (leaves : Leaves) (statements : List Statement) where
-  -- the cause of a statement that is at fault, where these stand before it
+  -- the first cause that a statement has, loops aside, where these stand before it
   unfoldable pub rule_cause : List Statement → Statement → Option ModelCause
   rule_cause before s =
       if names_missing leaves statements s.form then Some UnknownName

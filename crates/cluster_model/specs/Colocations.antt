@@ -24,7 +24,7 @@ module _ (leaves : Leaves) where
     score = score;
   }
 
-  -- each member of a group must be where the member before it is
+  -- a written colocation is one; and each member of a group must be where the member before it is
   abbrev pub its_colocations : Form → List Colocation
   its_colocations (form.Colocation id score dependent primary) =
       colocation_said id score dependent.resource (role_of_word dependent.role) primary.resource (role_of_word primary.role) ∷ []

@@ -85,7 +85,7 @@ promotes_members statements (form.Cloned id child ms description params meta) =
     says_promotable ms meta && option_map_or is_a_group (resource_named statements child) false
 promotes_members statements _ = false
 
--- the cause of one of the statements that is at fault, after those before it
+-- the first cause that a statement has, by all statements and by those before it
 unfoldable pub expand_cause : List Statement → List Statement → Statement → Option ExpandCause
 expand_cause statements before s =
     if repeats_name before s.form then Some DuplicateName

@@ -12,9 +12,9 @@ use Rattle.crm_parse.specs.declared.words.ActionWord.{ActionWord}
 use Rattle.crm_parse.specs.declared.words.KindWord.{KindWord}
 use Rattle.crm_parse.specs.declared.words.KindWord.TheVariants.{Mandatory, Optional, Serialize}
 use Rattle.crm_parse.specs.Order.{ends_steps, is_serialize_word, kind_at, order_at, read_order_step, step_parts, order_steps_at, symmetrical_as, symmetrical_in, with_step, with_steps, written_action}
+use Rattle.crm_parse.specs.OrderActions.{action_after, with_actions}
 use Rattle.crm_parse.specs.Reading.{Words, end_at, name_at, prefixed_at, resource_of, next_word_in}
 use Rattle.faults.specs.Reading.{◌>>=◌}
-use Rattle.crm_parse.specs.Inner.StepActions.{action_after, with_actions}
 use Rattle.crm_parse.specs.Values.{bool_of}
 use Rattle.crm_parse.proofs.Binds.{name_at-ok}
 use Rattle.faults.proofs.Steps.{bind-ok}
@@ -156,21 +156,8 @@ order_at-ok words order e =
       fits = symmetrical_in-ok kind.0 (prefixed_at (codes "symmetrical=") steps.1).0 both is_both;
     })
 
--- the steps with their actions follow those before them
-pub actions-front : (promotable : Words) (action : ActionWord) (done : List OrderStep) (steps : List StepDraft)
-    → with_actions promotable action done steps ≡ done ++ with_actions promotable action [] steps
-actions-front promotable action done [] = sym (append-nil done)
-actions-front promotable action done (step ∷ steps) =
-    let next = action_after promotable action step in
-    let one : OrderStep = record { resource = step.resource; action = next } in
-    actions-front promotable next (done ++ one ∷ []) steps
-    ∙ (append_assoc done (one ∷ []) (with_actions promotable next [] steps) ∙ ap (λ ss. done ++ ss) (sym (actions-front promotable next (one ∷ []) steps)))
-
--- their resources are named
+-- the resources of steps with their actions are named
 pub actions-named : (promotable : Words) (action : ActionWord) (steps : List StepDraft) → AllByRecursion NamedDraft steps
-    → AllByRecursion Named (with_actions promotable action [] steps)
+    → AllByRecursion Named (with_actions promotable action steps)
 actions-named promotable action [] h = tt
-actions-named promotable action (step ∷ steps) h =
-    let next = action_after promotable action step in
-    let one : OrderStep = record { resource = step.resource; action = next } in
-    subst (AllByRecursion Named) (sym (actions-front promotable next (one ∷ []) steps)) (h.0, actions-named promotable next steps h.1)
+actions-named promotable action (step ∷ steps) h = (h.0, actions-named promotable (action_after promotable action step) steps h.1)

@@ -1,6 +1,6 @@
 -- The names in the statements of some lines are names, and their recurring monitors are few, of different intervals: what the grammar has of
 -- each form.
-use Rattle.std.proofs.Common.{◌≡◌, ℕ, Bool, true, List, [], ◌∷◌, map, Ok, sym, subst}
+use Rattle.std.proofs.Common.{◌≡◌, ℕ, Bool, true, List, map, Ok}
 use Rattle.std.specs.List.{AllByRecursion}
 use Rattle.crm_lex.specs.Names.{is_name}
 use Rattle.crm_lex.specs.declared.line.Line.{Line}
@@ -26,13 +26,12 @@ use Rattle.crm_parse.specs.Grammar.Phrases.{EachSays, no_word, one_word}
 use Rattle.crm_parse.specs.Grammar.PrimitiveForm.{PrimitiveSays, a_primitive}
 use Rattle.crm_parse.specs.Grammar.ResourceForms.{CloneSays, GroupSays, MemberSays, a_clone, a_group, a_member}
 use Rattle.crm_parse.specs.Grammar.SettingsForm.{SettingsSay, some_settings}
+use Rattle.crm_parse.specs.OrderActions.{action_after, with_actions}
 use Rattle.crm_parse.specs.Reading.{Words}
 use Rattle.crm_parse.specs.ReadForms.{IsRead}
-use Rattle.crm_parse.specs.Inner.StepActions.{action_after, with_actions}
 use Rattle.crm_parse.specs.Statements.{finished, statements_of}
 use Rattle.crm_parse.proofs.Grammar.LineRelated.{line-is_said}
 use Rattle.crm_parse.proofs.LineForms.{DraftHas, statements-have}
-use Rattle.crm_parse.proofs.OrderRead.{actions-front}
 
 -- the names of each form
 node-names : (words : Words) (f : Form) → NodeSays words f → IsRead f
@@ -83,12 +82,10 @@ abbrev NamedSteps : List OrderStep → Type 0
 NamedSteps steps = AllByRecursion (λ name. is_name name ≡ true) (map (λ step. step.resource) steps)
 
 steps-named : (promotable : Words) (action : ActionWord) (words : Words) (steps : List StepDraft) → EachSays StepSays words steps
-    → NamedSteps (with_actions promotable action [] steps)
+    → NamedSteps (with_actions promotable action steps)
 steps-named promotable action ws ss no_word = tt
 steps-named promotable action ws ss (one_word word step words steps one more) =
-    let next = action_after promotable action step in
-    let made : OrderStep = record { resource = step.resource; action = next } in
-    subst NamedSteps (sym (actions-front promotable next (made ∷ []) steps)) (step-named word step one, steps-named promotable next words steps more)
+    (step-named word step one, steps-named promotable (action_after promotable action step) words steps more)
 
 order-names : (promotable words : Words) (order : OrderDraft) → OrderSays words order → IsRead (finished promotable (draft.Order order))
 order-names promotable words order s = record { names = (s.id, steps-named promotable Start s.step_words order.steps s.steps); monitors = tt }

@@ -39,7 +39,7 @@ pub record FirstFault (before : List DraftStatement) (words : Words) (cause : Pa
   pub begins : BeginsLine before front
   pub faulty : StaysRefused before (front ++ word ∷ []) cause
 
--- words that end in a section without a pair: in its word, or in `op` and a name
+-- words that end as a section without a pair does, by their last words: in its word, or in `op` and a name
 pub data EndsInBareSection : Words → Type 0 where
   bare_section : (words : Words) (section : SectionWord) → section ≢ Op → EndsInBareSection (words ++ section_text section ∷ [])
   bare_operation : (words : Words) (name : List ℕ) → EndsInBareSection (words ++ codes "op" ∷ name ∷ [])

@@ -18,7 +18,6 @@ pub mod Location
 pub mod Settings
 pub mod GivenKeys
 pub mod OrderActions
-pub mod Inner
 pub mod Statements
 pub mod Named
 pub mod Monitors

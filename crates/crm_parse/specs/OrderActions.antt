@@ -1,7 +1,10 @@
--- The action of a resource of an order that none is written at (crmsh manual, order; what a resource without a promoted role takes is a rule of this project).
-use Rattle.std.specs.Prelude.{ℕ, if◌then◌else◌, List, Option, Some, None}
+-- The actions of the resources of an order, where one is written at some of them (crmsh manual, order; what a resource without a promoted role takes is a
+-- rule of this project).
+use Rattle.std.specs.Prelude.{ℕ, if◌then◌else◌, List, [], ◌∷◌, Option, Some, None}
 use Rattle.std.specs.List.{list_any}
 use Rattle.crm_lex.specs.Names.{is}
+use Rattle.crm_parse.specs.declared.draft.StepDraft.{StepDraft}
+use Rattle.crm_parse.specs.declared.form.OrderStep.{OrderStep}
 use Rattle.crm_parse.specs.declared.words.ActionWord.{ActionWord}
 use Rattle.crm_parse.specs.declared.words.ActionWord.TheVariants.{Start, Stop, Promote, Demote}
 use Rattle.crm_parse.specs.Reading.{Words}
@@ -21,3 +24,13 @@ taken_action promotable before resource =
 abbrev pub action_in : Words → ActionWord → List ℕ → Option ActionWord → ActionWord
 action_in promotable before resource (Some action) = action
 action_in promotable before resource None = taken_action promotable before resource
+
+abbrev pub action_after : Words → ActionWord → StepDraft → ActionWord
+action_after promotable before step = action_in promotable before step.resource step.action
+
+-- the resources of an order with their actions, where this is the action before the first one
+abbrev pub with_actions : Words → ActionWord → List StepDraft → List OrderStep
+with_actions promotable before [] = []
+with_actions promotable before (step ∷ steps) =
+    let action = action_after promotable before step in
+    record { resource = step.resource; action = action } ∷ with_actions promotable action steps

@@ -22,11 +22,11 @@ use Rattle.crm_parse.specs.declared.words.ActionWord.TheVariants.{Start}
 use Rattle.crm_parse.specs.declared.words.SettingsWord.TheVariants.{Property, RscDefaults, OpDefaults}
 use Rattle.crm_parse.specs.Colocation.{colocation_at}
 use Rattle.crm_parse.specs.Groups.{clone_at, group_at}
-use Rattle.crm_parse.specs.Inner.StepActions.{with_actions}
 use Rattle.crm_parse.specs.Location.{location_at}
 use Rattle.crm_parse.specs.Node.{node_statement_at}
 use Rattle.crm_parse.specs.Operations.{value_of}
 use Rattle.crm_parse.specs.Order.{order_at}
+use Rattle.crm_parse.specs.OrderActions.{with_actions}
 use Rattle.crm_parse.specs.Primitive.{primitive_at}
 use Rattle.crm_parse.specs.Reading.{Words}
 use Rattle.faults.specs.Reading.{◌>>=◌}
@@ -126,7 +126,7 @@ promotable_by drafts = flat_map (λ statement. promotable_in statement.draft) dr
 abbrev pub finished : Words → Draft → Form
 finished promotable (draft.Whole form) = form
 finished promotable (draft.Order order) =
-    form.Order order.id order.kind (with_actions promotable Start [] order.steps) order.symmetrical
+    form.Order order.id order.kind (with_actions promotable Start order.steps) order.symmetrical
 
 abbrev pub statement_of : Words → DraftStatement → Statement
 statement_of promotable statement = record { line = statement.line; form = finished promotable statement.draft }

@@ -3,8 +3,7 @@
 ghost use Rattle.std.specs.Prelude.{◌≡◌, ◌++◌, [], IfOk, false};
 ghost use Rattle.std.specs.Option.{option_copied, option_map_or};
 ghost use Rattle.crm_parse.specs.declared.words.ActionWord.TheVariants.{Start};
-ghost use Rattle.crm_parse.specs.Inner.StepActions.{action_after, with_actions};
-ghost use Rattle.crm_parse.specs.OrderActions.{taken_action, unpromoted};
+ghost use Rattle.crm_parse.specs.OrderActions.{action_after, taken_action, unpromoted, with_actions};
 ghost use Rattle.crm_parse.specs.Statements.{finished, says_promotable, promotable_by, promotable_in};
 ghost use Rattle.crm_parse.specs.Values.{bool_of};
 
@@ -106,7 +105,7 @@ fn with_actions(
     promotable: &Promotable,
     steps: &[StepDraft],
 ) -> Result<Listed<OrderStep>, NoMemory>
-    ensures { IfOk result (λ done. done ≡ with_actions promotable.now Start [] steps.now) }
+    ensures { IfOk result (λ done. done ≡ with_actions promotable.now Start steps.now) }
 {
     let mut action = ActionWord::Start;
     let mut done = Listed::new(alloc);

@@ -25,10 +25,10 @@ use Rattle.crm_parse.specs.Groups.{clone_at, group_at}
 use Rattle.crm_parse.specs.Location.{location_at}
 use Rattle.crm_parse.specs.Node.{node_statement_at}
 use Rattle.crm_parse.specs.Order.{order_at}
+use Rattle.crm_parse.specs.OrderActions.{with_actions}
 use Rattle.crm_parse.specs.Primitive.{primitive_at}
 use Rattle.crm_parse.specs.Reading.{Words, name_at, score_of, next_word_in}
 use Rattle.crm_parse.specs.Settings.{settings_at}
-use Rattle.crm_parse.specs.Inner.StepActions.{with_actions}
 use Rattle.crm_parse.specs.Statements.{draft_after, draft_of, finished, keyword_of, order, whole}
 use Rattle.crm_parse.specs.WordTexts.{action_word_text, bool_text, kind_text, settings_text}
 use Rattle.crm_parse.proofs.Binds.{name_at-ok}
@@ -94,7 +94,7 @@ steps-clean (step ∷ steps) h =
 order-clean : (promotable : Words) (order : OrderDraft) → IsOrder order → AllClean (written (finished promotable (draft.Order order)))
 order-clean promotable order h =
     let all : AllByRecursion NamedDraft order.steps = subst (AllByRecursion NamedDraft) (sym h.steps) (h.first, (h.second, h.others)) in
-    let steps = with_actions promotable Start [] order.steps in (
+    let steps = with_actions promotable Start order.steps in (
       clean-ascii (codes "order") refl,
       (
         clean-name order.id h.named,

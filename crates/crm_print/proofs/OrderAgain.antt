@@ -13,8 +13,8 @@ use Rattle.crm_parse.specs.declared.words.ActionWord.TheVariants.{Start, Stop, P
 use Rattle.crm_parse.specs.declared.words.KindWord.{KindWord}
 use Rattle.crm_parse.specs.declared.words.KindWord.TheVariants.{Mandatory, Optional, Serialize}
 use Rattle.crm_parse.specs.Order.{ends_steps, kind_at, kind_by_word, order_at, read_order_step, step_parts, order_steps_at, symmetrical_as, symmetrical_in, with_step, with_steps}
+use Rattle.crm_parse.specs.OrderActions.{action_after, with_actions}
 use Rattle.crm_parse.specs.Reading.{Words}
-use Rattle.crm_parse.specs.Inner.StepActions.{action_after, with_actions}
 use Rattle.crm_parse.specs.Statements.{finished}
 use Rattle.crm_parse.specs.Values.{action_of, bool_of}
 use Rattle.crm_parse.specs.WordTexts.{action_word_text, bool_text, kind_text}
@@ -23,7 +23,7 @@ use Rattle.crm_parse.proofs.PairsAgain.{cut_at-again}
 use Rattle.crm_parse.proofs.PairWords.{has}
 use Rattle.crm_parse.proofs.LackedBytes.{has-append, name-lacks, no_label}
 use Rattle.crm_print.proofs.Written.{step_word, written}
-use Rattle.crm_parse.proofs.OrderRead.{Named, actions-named, actions-front, IsOrder}
+use Rattle.crm_parse.proofs.OrderRead.{Named, actions-named, IsOrder}
 
 -- a step with the action that it was given
 abbrev pub done_step : OrderStep → StepDraft
@@ -32,7 +32,7 @@ done_step step = record { resource = step.resource; action = Some step.action }
 -- an order with the actions that it was given
 abbrev pub done_order : Words → OrderDraft → OrderDraft
 done_order promotable order =
-    record { id = order.id; kind = order.kind; steps = map done_step (with_actions promotable Start [] order.steps); symmetrical = order.symmetrical }
+    record { id = order.id; kind = order.kind; steps = map done_step (with_actions promotable Start order.steps); symmetrical = order.symmetrical }
 
 -- the words behind the first of an order
 abbrev pub order_words : List ℕ → KindWord → List OrderStep → Bool → Words
@@ -95,10 +95,9 @@ steps_at-again one two steps both h k all =
     (with_steps-again (done_step one ∷ done_step two ∷ []) steps both all)
 
 -- steps that have their actions keep them
-actions-again : (promotable : Words) (action : ActionWord) (done steps : List OrderStep) → with_actions promotable action done (map done_step steps) ≡ done ++ steps
-actions-again promotable action done [] = sym (append-nil done)
-actions-again promotable action done (step ∷ steps) =
-    actions-again promotable step.action (done ++ step ∷ []) steps ∙ append_assoc done (step ∷ []) steps
+actions-again : (promotable : Words) (action : ActionWord) (steps : List OrderStep) → with_actions promotable action (map done_step steps) ≡ steps
+actions-again promotable action [] = refl
+actions-again promotable action (step ∷ steps) = ap (λ ss. step ∷ ss) (actions-again promotable step.action steps)
 
 kind_at-again : (kind : KindWord) (words : Words) → kind_at ((kind_text kind ++ codes ":") ∷ words) ≡ Ok (kind, words)
 unfolding kind_at kind_by_word
@@ -135,23 +134,22 @@ order-steps promotable order steps named fits one two more s first second others
 
 -- an order is read again with the actions that it was given
 pub order-again : (promotable : Words) (order : OrderDraft) → IsOrder order
-    → order_at (order_words order.id order.kind (with_actions promotable Start [] order.steps) order.symmetrical) ≡ Ok (done_order promotable order)
+    → order_at (order_words order.id order.kind (with_actions promotable Start order.steps) order.symmetrical) ≡ Ok (done_order promotable order)
 order-again promotable order h =
     let a = action_after promotable Start h.one in
     let b = action_after promotable a h.two in
     let one : OrderStep = record { resource = h.one.resource; action = a } in
     let two : OrderStep = record { resource = h.two.resource; action = b } in
-    let steps : with_actions promotable Start [] order.steps ≡ one ∷ two ∷ with_actions promotable b [] h.more =
-    ap (with_actions promotable Start []) h.steps ∙ actions-front promotable b (one ∷ two ∷ []) h.more in
-    order-steps promotable order (with_actions promotable Start [] order.steps) h.named h.fits one two (with_actions promotable b [] h.more) steps
+    let steps : with_actions promotable Start order.steps ≡ one ∷ two ∷ with_actions promotable b h.more = ap (with_actions promotable Start) h.steps in
+    order-steps promotable order (with_actions promotable Start order.steps) h.named h.fits one two (with_actions promotable b h.more) steps
     h.first h.second (actions-named promotable b h.more h.others)
 
 -- and says the same, whichever resources have a promoted role
 pub order-finished : (promotable other : Words) (order : OrderDraft) → finished other (draft.Order (done_order promotable order)) ≡ finished promotable (draft.Order order)
 order-finished promotable other order =
-    ap (λ ss. form.Order order.id order.kind ss order.symmetrical) (actions-again other Start [] (with_actions promotable Start [] order.steps))
+    ap (λ ss. form.Order order.id order.kind ss order.symmetrical) (actions-again other Start (with_actions promotable Start order.steps))
 
 -- its words are those that are written
 pub order-written : (promotable : Words) (order : OrderDraft)
-    → written (finished promotable (draft.Order order)) ≡ codes "order" ∷ order_words order.id order.kind (with_actions promotable Start [] order.steps) order.symmetrical
+    → written (finished promotable (draft.Order order)) ≡ codes "order" ∷ order_words order.id order.kind (with_actions promotable Start order.steps) order.symmetrical
 order-written promotable order = refl

@@ -11,6 +11,7 @@ use Rattle.graph_exec.specs.declared.transition.outcomes.Outcomes.{Ghosts as Out
 use Rattle.graph_exec.specs.declared.transition.watcher.Heard.{Heard}
 use Rattle.graph_exec.specs.declared.transition.watcher.Heard.TheVariants as heard
 use Rattle.graph_exec.specs.declared.transition.watcher.Watcher.{Ghosts as WatcherOf}
+use Rattle.graph_exec.specs.Counts.{CountsAnswer}
 use Rattle.graph_exec.specs.Lasting.{LastWord, none_failed, word_is, word_open, HasSourceCome, IsFailureCounted, IsStopCounted, SourceLasts, WatcherLasts, transition_word}
 use Rattle.graph_exec.specs.Inner.Rounds.{StopsAs}
 use Rattle.graph_exec.specs.Running.{Running}
@@ -19,7 +20,7 @@ use Rattle.graph_exec.specs.Transitions.{HasGoneToEnd}
 use Rattle.graph_exec.specs.Watching.{heard_at}
 
 -- a count that rose later rose since
-rose_since : (before middle now : ℕ) → before ≤ middle → Rose middle now → Rose before now
+pub rose_since : (before middle now : ℕ) → before ≤ middle → Rose middle now → Rose before now
 rose_since before middle now more rose = omega (arith, more, rose)
 
 failure_since : (before middle now : ℕ) → before ≤ middle → (word : LastWord) → IsFailureCounted middle now word → IsFailureCounted before now word
@@ -47,11 +48,18 @@ over_asked steady before after (next.Answer given) h always was = h was
 over_asked steady before after next.Silent h always was = h always
 over_asked steady before after next.Failed h always was = let f : ⊥ = cc in absurd f
 
+-- no question lets the count of answers fall
+never_fewer : (brought : Next) (before now : ℕ) → CountsAnswer brought before now → before ≤ now
+never_fewer (next.Answer given) before now c = c.never_falls
+never_fewer next.Silent before now c = omega (arith, c)
+never_fewer next.Failed before now c = omega (arith, c)
+
 module _ {A : Type 0} (s : OutcomesOf A) where
   pub source_same : ((a : A) → s.follows a a) → (a : A) → SourceLasts s a a none_failed
   source_same itself a = record {
     whole = refl;
     count = omega arith;
+    answered = omega arith;
     cause = tt;
     careful = refl;
     steady = refl;
@@ -71,9 +79,12 @@ module _ {A : Type 0} (s : OutcomesOf A) where
     source_then word a b =
         let was = a.count in
         let now = b.count in
+        let answered_before = a.answered in
+        let answered_now = b.answered in
         record {
           whole = b.whole ∙ a.whole;
           count = omega arith;
+          answered = omega arith;
           cause = failure_since _ _ _ was word b.cause;
           careful = b.careful ∙ a.careful;
           steady = b.steady ∙ a.steady;
@@ -83,11 +94,12 @@ module _ {A : Type 0} (s : OutcomesOf A) where
 
   module _ (old new : A) where
     -- the source is told
-    pub source_told : s.whole new ≡ s.whole old → s.faults old ≤ s.faults new → s.careful new ≡ s.careful old → s.steady new ≡ s.steady old → s.over new ≡ s.over old
+    pub source_told : s.whole new ≡ s.whole old → s.faults old ≤ s.faults new → s.answered new ≡ s.answered old → s.careful new ≡ s.careful old → s.steady new ≡ s.steady old → s.over new ≡ s.over old
         → s.follows old new → SourceLasts s old new none_failed
-    source_told whole count careful steady over follows = record {
+    source_told whole count answered careful steady over follows = record {
       whole = whole;
       count = count;
+      answered = omega (arith, answered);
       cause = tt;
       careful = careful;
       steady = steady;
@@ -97,11 +109,12 @@ module _ {A : Type 0} (s : OutcomesOf A) where
 
     -- it is asked
     pub source_asked : (brought : Next) → s.whole new ≡ s.whole old → s.faults old ≤ s.faults new → (brought ≡ next.Failed → Rose (s.faults old) (s.faults new))
-        → s.careful new ≡ s.careful old → s.steady new ≡ s.steady old → IsOverBy (s.steady old) (s.over old) (s.over new) brought → s.said old new brought
+        → CountsAnswer brought (s.answered old) (s.answered new) → s.careful new ≡ s.careful old → s.steady new ≡ s.steady old → IsOverBy (s.steady old) (s.over old) (s.over new) brought → s.said old new brought
         → SourceLasts s old new (word_is brought)
-    source_asked brought whole count cause careful steady over said = record {
+    source_asked brought whole count cause answered careful steady over said = record {
       whole = whole;
       count = count;
+      answered = never_fewer brought _ _ answered;
       cause = failure_said _ _ brought cause;
       careful = careful;
       steady = steady;
@@ -115,6 +128,7 @@ module _ {A : Type 0} (s : OutcomesOf A) where
     source_on from_said brought unfailed a = record {
       whole = a.whole;
       count = a.count;
+      answered = a.answered;
       cause = tt;
       careful = a.careful;
       steady = a.steady;
@@ -127,6 +141,7 @@ module _ {A : Type 0} (s : OutcomesOf A) where
     source_open word a = record {
       whole = a.whole;
       count = a.count;
+      answered = a.answered;
       cause = tt;
       careful = a.careful;
       steady = a.steady;

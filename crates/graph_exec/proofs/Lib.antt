@@ -18,6 +18,7 @@ pub mod Losses
 pub mod Silent
 pub mod Fewer
 pub mod Carrying
+pub mod Aborting
 pub mod Lasts
 pub mod Stepping
 pub mod Said

@@ -34,6 +34,7 @@ IsStopCounted stops stops_now says.Go = Unit {0}
 IsStopCounted stops stops_now says.Stop = Rose stops stops_now
 
 module _ {A : Type 0} (s : OutcomesOf A) (old new : A) where
+  -- what the source has come to, by its last word: it followed, or has said this; or nothing is told
   abbrev pub HasSourceCome : LastWord → Type 0
   HasSourceCome none_failed = s.follows old new
   HasSourceCome (word_is brought) = s.said old new brought
@@ -43,6 +44,7 @@ module _ {A : Type 0} (s : OutcomesOf A) (old new : A) where
   pub record SourceLasts (word : LastWord) : Type 0 where
     pub whole : s.whole new ≡ s.whole old
     pub count : s.faults old ≤ s.faults new
+    pub answered : s.answered old ≤ s.answered new
     pub cause : IsFailureCounted (s.faults old) (s.faults new) word
     pub careful : s.careful new ≡ s.careful old
     pub steady : s.steady new ≡ s.steady old

@@ -8,6 +8,7 @@ pub mod Saying
 pub mod Scripts
 pub mod Telling
 pub mod Watching
+pub mod Counts
 pub mod Lasting
 pub mod Transitions
 pub mod Promises

@@ -18,7 +18,7 @@ pub record IsGraphPlanned (r : Running) (placed : Placed) : Type 0 where
   pub at_rest : IsAtRest r.planned_at
   pub plan : CarriesOut r.cluster r.planned_at r.promotions placed r.graph
 
--- each action began while fewer than the batch limit were in flight
+-- each action began while fewer than the batch limit were in flight; 0 is no limit
 abbrev pub KeepsBatchLimit : Transition → List Event → Type 0
 KeepsBatchLimit t events = AtEachBegin (λ before k a. has_room t before ≡ true) events
 

@@ -1,4 +1,4 @@
--- Which actions wait no longer: those before which none is left (rule of this project).
+-- Which actions wait for no other any more: all that come before them have succeeded (rule of this project).
 use Rattle.std.specs.Prelude.{ℕ, ◌||◌, ◌&&◌, Bool, false, not, List, length, filter, replicate}
 use Rattle.std.specs.List.{list_all, range_with_len}
 use Rattle.cluster_types.specs.Graphs.{GraphOf, is_before}
@@ -18,6 +18,6 @@ none_begun g = record { graph = g; begun = replicate (length g.actions) false; s
 abbrev pub inputs_have_succeeded : GraphOf → List Bool → ℕ → Bool
 inputs_have_succeeded g succeeded k = list_all (λ j. not (is_before g j k) || is_member succeeded j) (range_with_len 1 (length g.actions))
 
--- the numbers of the actions that haven't begun and before which none is left, ascending
+-- the numbers of the actions that haven't begun and before which all have succeeded, ascending
 abbrev pub startable : Progress → List ℕ
 startable p = filter (λ k. inputs_have_succeeded p.graph p.succeeded k && not (is_member p.begun k)) (range_with_len 1 (length p.graph.actions))

@@ -32,7 +32,7 @@ pub record IsUnderWay (r : Running) : Type 0 where
   pub graph : IsGraph r.graph
   pub steps : Goes (going r) true [] None r.since None
 
--- it went on by steps, from the answers to come before to those after, and nothing else of it changed
+-- it went on by steps, which took the first of the answers to come and left the others, and nothing else of it changed
 pub record Went (whole : Bool) (old new : Running) (rest left : Option (List Answer)) : Type 0 where
   pub same : new ≡ record { cluster = old.cluster; graph = old.graph; planned_at = old.planned_at; since = new.since; promotions = old.promotions }
   pub steps : Goes (going old) whole old.since rest new.since left

@@ -10,7 +10,7 @@ use Rattle.cluster_types.specs.Steps.{is_from_outside, silent_end}
 use Rattle.graph_exec.specs.declared.transition.outcomes.Next.{Next}
 use Rattle.graph_exec.specs.declared.transition.outcomes.Next.TheVariants as next
 
--- from the answers to come before to those after: an answer is the first of them, nothing more is said where there are none, and a fault leaves them
+-- from the answers to come before to those after: an answer is the first of them, nothing more is said where there are none, and a failure leaves them as they were
 abbrev pub GivesNext : Bool → Option (List Answer) → Option (List Answer) → Next → Type 0
 GivesNext whole before after (next.Answer given) = Says whole before (Some given) after
 GivesNext whole before after next.Silent = Says whole before None after
@@ -25,8 +25,8 @@ abbrev pub taken_by : Next → ℕ
 taken_by (next.Answer given) = 1
 taken_by _ = 0
 
--- whether a source is over, before and after it says this: it stays over, and doesn't fail then; and a steady one is over once it has said that nothing
--- more comes
+-- whether a source is over, before and after it says this: one that is over stays so when it answers, and doesn't fail; and a steady one is over once it has said
+-- that nothing more comes
 abbrev pub IsOverBy : Bool → Bool → Bool → Next → Type 0
 IsOverBy steady before after (next.Answer given) = before ≡ true → after ≡ true
 IsOverBy steady before after next.Silent = steady ≡ true → after ≡ true

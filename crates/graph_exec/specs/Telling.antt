@@ -31,7 +31,7 @@ pub record StopsAmong (Stopped : List RunLine → RunLine → Type 0) (lines : L
   pub parts : lines ≡ before ++ at ∷ behind
   pub stopped : Stopped before at
 
--- what holds a leaf back is a rule with a name, so that each line is short
+-- the id of each rule that holds a leaf back is a name, so that each line is short
 abbrev pub ReasonsHaveNames : Placed → Type 0
 ReasonsHaveNames placed = (r : ℕ) (id : List ℕ) → slice_get placed.none r ≡ Some (Some (Held id)) → is_name id ≡ true
 

@@ -13,8 +13,8 @@ use Rattle.cluster_types.specs.declared.journal.Promotion.{Promotion}
 use Rattle.cluster_types.specs.Journals as journals
 use Rattle.cluster_types.specs.Journals.{NodeWord, Orderly, first_events, in_flight_by_begin, is_history_event, leaving, moment_of, seconds_of}
 use Rattle.cluster_types.proofs.JournalLaws.{in-order, nothing-in-flight}
-use Rattle.input_reading.specs.declared.status.told.Told.{Told}
-use Rattle.input_reading.specs.declared.status.told.Told.TheVariants as told
+use Rattle.input_reading.specs.declared.status.line_meaning.Told.{Told}
+use Rattle.input_reading.specs.declared.status.line_meaning.Told.TheVariants as told
 use Rattle.input_reading.specs.FirstJournal.{all_differ, events_of, history_of, is_again, is_known, is_repeated, is_promotion_of_same_cell, now_of, promotion_in, quorum_of, word_of}
 
 -- one more line

@@ -21,9 +21,9 @@ use Rattle.input_reading.specs.Places.{code_at, leaf_at, node_at, number_at, sec
 use Rattle.input_reading.specs.Results.{answer_of, end_line, lost_line, quorum_answer, report_line, result_word, timeout_line, up_line, wait_line}
 use Rattle.input_reading.specs.RunReading.{aborted_line, answer_line, begin_line, complete_line, fence_at_end, held_line, lacking_line, line_of_words, migrate_from_at_end, migrate_to_at_end, monitor_at_end, number_alone, operation_at_end, pinned_line, plain_line, probe_at_end, target_line, transition_line, unexpected_line}
 use Rattle.input_reading.specs.Status.{cleanup_line, interval_at, node_line, now_line, op_at, op_line, outcome_at, promotable_at, promotion_line, quorum_line, score_at, state_at, status_word, told_of}
-use Rattle.input_reading.specs.declared.status.told.NodeWord.TheVariants.{Unclean}
-use Rattle.input_reading.specs.declared.status.told.Told.{Told}
-use Rattle.input_reading.specs.declared.status.told.Told.TheVariants.{Now, Quorum, Node, Past, Promoting}
+use Rattle.input_reading.specs.declared.status.line_meaning.NodeWord.TheVariants.{Unclean}
+use Rattle.input_reading.specs.declared.status.line_meaning.Told.{Told}
+use Rattle.input_reading.specs.declared.status.line_meaning.Told.TheVariants.{Now, Quorum, Node, Past, Promoting}
 use Rattle.input_reading.specs.Grammar.ResultForms.{ResultSays}
 use Rattle.input_reading.specs.Grammar.RunForms.{RunSays}
 use Rattle.input_reading.specs.Grammar.StatusForms.{StatusSays}

@@ -9,8 +9,8 @@ use Rattle.cluster_types.specs.declared.journal.Outcome.{Outcome}
 use Rattle.input_reading.specs.declared.words.word_cause.WordCause.{WordCause}
 use Rattle.input_reading.specs.Places.{WordsOfLine, leaf_at, node_at, seconds_at, yes_at}
 use Rattle.input_reading.specs.Status.{cleanup_line, interval_at, node_line, now_line, op_at, op_line, outcome_at, promotable_at, promotion_line, quorum_line, score_at, state_at, status_word, told_of}
-use Rattle.input_reading.specs.declared.status.told.Told.{Told}
-use Rattle.input_reading.specs.declared.status.told.Told.TheVariants.{Past}
+use Rattle.input_reading.specs.declared.status.line_meaning.Told.{Told}
+use Rattle.input_reading.specs.declared.status.line_meaning.Told.TheVariants.{Past}
 use Rattle.input_reading.specs.Grammar.StatusForms.{ActionEnded, SaysOutcome, StatusSays, a_demote, a_monitor, a_probe, a_promote, a_start, a_stop, cleanup_form, node_form, now_form, op_form, promotion_form, quorum_form}
 use Rattle.input_reading.proofs.ActionRelated.{leaf-found, node-found}
 use Rattle.input_reading.proofs.NumbersSaid.{number-read, whether-read}

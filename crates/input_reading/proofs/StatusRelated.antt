@@ -12,9 +12,9 @@ use Rattle.faults.specs.Reading.{◌>>=◌}
 use Rattle.faults.proofs.Steps.{bind-ok}
 use Rattle.input_reading.specs.declared.words.word_cause.WordCause.{WordCause}
 use Rattle.input_reading.specs.declared.words.word_cause.WordCause.TheVariants.{BadValue}
-use Rattle.input_reading.specs.declared.status.told.NodeWord.{NodeWord}
-use Rattle.input_reading.specs.declared.status.told.Told.{Told}
-use Rattle.input_reading.specs.declared.status.told.Told.TheVariants.{Now, Quorum, Node, Past, Promoting}
+use Rattle.input_reading.specs.declared.status.line_meaning.NodeWord.{NodeWord}
+use Rattle.input_reading.specs.declared.status.line_meaning.Told.{Told}
+use Rattle.input_reading.specs.declared.status.line_meaning.Told.TheVariants.{Now, Quorum, Node, Past, Promoting}
 use Rattle.input_reading.specs.OpWords.{operation_named}
 use Rattle.input_reading.specs.Places.{WordsOfLine, leaf_at, line_end_at, node_at, seconds_at, word_at, yes_at}
 use Rattle.input_reading.specs.Status.{cleanup_line, history_action, interval_as, interval_at, may_have, node_line, node_word, now_line, op_at, op_line, outcome_at, outcome_of, promotable_at, promotion_line, quorum_line, score_at, state_at, status_word, told_as, told_of}

@@ -9,7 +9,7 @@ use Rattle.faults.specs.Reading.{◌>>=◌, Gives, faulting, on_line}
 use Rattle.faults.proofs.Steps.{bind-ok, faulting-ok, on_line-ok}
 use Rattle.input_reading.specs.declared.history_fault.StatusCause.{StatusCause}
 use Rattle.input_reading.specs.declared.history_fault.StatusCause.TheVariants.{Form, Repeated}
-use Rattle.input_reading.specs.declared.status.told.Told.{Told}
+use Rattle.input_reading.specs.declared.status.line_meaning.Told.{Told}
 use Rattle.input_reading.specs.declared.words.word_cause.WordCause.{WordCause}
 use Rattle.input_reading.specs.FirstJournal.{is_repeated, journal_of, status_journal, with_status_line, with_status_lines, with_told}
 use Rattle.input_reading.specs.Grammar.LinesSaid.{AsLinesSay, IsStatusRefused, StatusIsSaid, StatusLineRefused, StatusLineSays, no_status_form, said_before}

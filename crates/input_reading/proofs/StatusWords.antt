@@ -14,8 +14,8 @@ use Rattle.cluster_types.specs.declared.journal.Outcome.TheVariants.{Code, Timed
 use Rattle.cluster_types.specs.declared.leaf.Op.{Op}
 use Rattle.cluster_types.specs.declared.leaf.Op.TheVariants.{Monitor}
 use Rattle.faults.specs.Digits.{number_up_to}
-use Rattle.input_reading.specs.declared.status.told.NodeWord.{NodeWord}
-use Rattle.input_reading.specs.declared.status.told.NodeWord.TheVariants.{Online, Offline, Unclean}
+use Rattle.input_reading.specs.declared.status.line_meaning.NodeWord.{NodeWord}
+use Rattle.input_reading.specs.declared.status.line_meaning.NodeWord.TheVariants.{Online, Offline, Unclean}
 use Rattle.input_reading.specs.Numbers.{read_exit_code}
 use Rattle.input_reading.specs.Status.{history_action, interval_as, may_have, node_word, outcome_of}
 use Rattle.input_reading.specs.Grammar.StatusForms.{ActionEnded, SaysOutcome, SaysState, WritesZero, a_demote, a_monitor, a_probe, a_promote, a_start, a_stop, exited, says_offline, says_online, says_unclean, was_killed}

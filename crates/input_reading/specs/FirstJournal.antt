@@ -13,10 +13,10 @@ use Rattle.faults.specs.declared.fault.Fault.TheVariants.{At}
 use Rattle.faults.specs.Reading.{◌>>=◌, faulting, on_line}
 use Rattle.input_reading.specs.declared.history_fault.StatusCause.{StatusCause}
 use Rattle.input_reading.specs.declared.history_fault.StatusCause.TheVariants.{Form, Repeated}
-use Rattle.input_reading.specs.declared.status.told.NodeWord.{NodeWord}
-use Rattle.input_reading.specs.declared.status.told.NodeWord.TheVariants as said
-use Rattle.input_reading.specs.declared.status.told.Told.{Told}
-use Rattle.input_reading.specs.declared.status.told.Told.TheVariants.{Now, Quorum, Node, Past, Promoting}
+use Rattle.input_reading.specs.declared.status.line_meaning.NodeWord.{NodeWord}
+use Rattle.input_reading.specs.declared.status.line_meaning.NodeWord.TheVariants as said
+use Rattle.input_reading.specs.declared.status.line_meaning.Told.{Told}
+use Rattle.input_reading.specs.declared.status.line_meaning.Told.TheVariants.{Now, Quorum, Node, Past, Promoting}
 use Rattle.input_reading.specs.Status.{told_of}
 
 abbrev pub is_promotion_of_same_cell : Promotion → Promotion → Bool
@@ -25,7 +25,7 @@ is_promotion_of_same_cell one other = one.leaf == other.leaf && one.node == othe
 -- the second line says again what may be said once: the moment, quorum, the state of a node, the promotion score of a cell
 abbrev pub is_again : Told → Told → Bool
 is_again (Now before) (Now seconds) = true
-is_again (Quorum before) (Quorum now) = true
+is_again (Quorum before) (Quorum yes) = true
 is_again (Node before state) (Node node word) = before == node
 is_again (Promoting before) (Promoting promotion) = is_promotion_of_same_cell before promotion
 is_again _ _ = false
@@ -55,9 +55,10 @@ now_in (Now seconds) = Some seconds
 now_in _ = None
 
 abbrev pub quorum_in : Told → Option Bool
-quorum_in (Quorum now) = Some now
+quorum_in (Quorum yes) = Some yes
 quorum_in _ = None
 
+-- what a line says of the state of this node
 abbrev pub word_in : ℕ → Told → Option NodeWord
 word_in n (Node node word) = if node == n then Some word else None
 word_in n _ = None
@@ -78,7 +79,7 @@ now_of told = unwrap_or (first_said now_in told) 0
 abbrev pub quorum_of : List Told → Bool
 quorum_of told = unwrap_or (first_said quorum_in told) false
 
--- the word on a node
+-- how a node stands by the first line on it, if there is one
 abbrev pub word_as : Option NodeWord → journals.NodeWord
 word_as (Some said.Online) = journals.online
 word_as (Some said.Offline) = journals.offline
@@ -92,7 +93,7 @@ word_of told n = word_as (first_said (word_in n) told)
 abbrev pub history_of : List Told → List Event
 history_of told = filter_map past_in told
 
--- the first journal: each node joins, then comes the history, then leave those that aren't online, then the word on quorum and the moment
+-- the first journal: each node joins, then comes the history, then those leave that aren't online, then come the word on quorum and the moment
 abbrev pub events_of : Cluster → List Told → List Event
 events_of c told = first_events c (history_of told) (map (word_of told) (range_with_len 0 (length c.nodes))) (quorum_of told) (now_of told)
 

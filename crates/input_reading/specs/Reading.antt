@@ -41,7 +41,7 @@ configuration_lines marks lines = take marks.status_at lines
 abbrev pub status_lines : SectionMarks → List Line → List Line
 status_lines marks lines = slice_range lines (marks.status_at + 1) marks.results_at
 
--- the lines of what follows the status: those after its section line
+-- the lines of the last section, of results or of a trace: those after its section line
 abbrev pub following_lines : SectionMarks → List Line → List Line
 following_lines marks lines = slice_range lines (marks.results_at + 1) marks.end
 
@@ -70,7 +70,7 @@ head_of crm cluster lines = do
   journal ← faulting cause.Status (status_journal cluster lines)
   Ok (record { crm = crm; cluster = cluster; journal = journal })
 
--- the order of the steps, where what follows the status is read so, with the head before it
+-- the last steps, where this says how what follows the status is read, by the head before it
 module _ {X : Type 0} (read_on : Head → List Line → Result X (Fault InputCause)) where
   -- behind the cluster come the status and what follows it
   abbrev pub with_cluster : Configuration → Cluster → Result X (Fault InputCause)

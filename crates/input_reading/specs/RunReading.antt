@@ -160,7 +160,7 @@ begin_line c words = do
   what ← action_as c form words
   Ok (line.Begin number what)
 
--- an answer, as a result line at moment 0, so that no wait is too long that is one
+-- an answer, as of a result line at the moment 0: the waits of a run aren't added up, so any SECONDS will do
 unfoldable pub answer_line : Cluster → WordsOfLine → Result RunLine WordCause
 answer_line c words = do
   given ← answer_of c 0 words

@@ -23,10 +23,10 @@ use Rattle.input_reading.specs.OpWords.{operation_named}
 use Rattle.input_reading.specs.Places.{WordsOfLine, line_end_at, leaf_at, node_at, seconds_at, word_at, yes_at}
 use Rattle.input_reading.specs.declared.status.status_lines.StatusWord.{StatusWord}
 use Rattle.input_reading.specs.declared.status.status_lines.StatusWord.TheVariants as first
-use Rattle.input_reading.specs.declared.status.told.NodeWord.{NodeWord}
-use Rattle.input_reading.specs.declared.status.told.NodeWord.TheVariants.{Online, Offline, Unclean}
-use Rattle.input_reading.specs.declared.status.told.Told.{Told}
-use Rattle.input_reading.specs.declared.status.told.Told.TheVariants.{Now, Quorum, Node, Past, Promoting}
+use Rattle.input_reading.specs.declared.status.line_meaning.NodeWord.{NodeWord}
+use Rattle.input_reading.specs.declared.status.line_meaning.NodeWord.TheVariants.{Online, Offline, Unclean}
+use Rattle.input_reading.specs.declared.status.line_meaning.Told.{Told}
+use Rattle.input_reading.specs.declared.status.line_meaning.Told.TheVariants.{Now, Quorum, Node, Past, Promoting}
 
 -- what a first word begins
 unfoldable pub status_word : List ℕ → Result StatusWord WordCause
@@ -49,9 +49,9 @@ now_line words = do
 -- `quorum yes` or `quorum no`
 unfoldable pub quorum_line : WordsOfLine → Result Told WordCause
 quorum_line words = do
-  now ← yes_at 1 words
+  yes ← yes_at 1 words
   end ← line_end_at 2 words
-  Ok (Quorum now)
+  Ok (Quorum yes)
 
 abbrev pub node_word : List ℕ → Option NodeWord
 node_word word =

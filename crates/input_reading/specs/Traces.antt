@@ -13,7 +13,7 @@ use Rattle.input_reading.specs.declared.input.trace.Trace.{Trace}
 use Rattle.input_reading.specs.Reading.{line_behind, reading_steps}
 use Rattle.input_reading.specs.Sections.{sections_with_trace}
 
--- the lines of a run follow, and the last line of the text stands before this one
+-- the lines of a run follow. The number is that behind the last line of the text
 unfoldable pub with_run : ℕ → Head → List Line → Result Trace (Fault InputCause)
 with_run after head lines = do
   run ← faulting cause.Run (read_run_lines head.cluster lines)
@@ -31,10 +31,12 @@ ReadsTrace text trace = trace_of text ≡ Ok trace
 abbrev pub IsTraceRefused : List ℕ → ℕ → InputCause → Type 0
 IsTraceRefused text line why = trace_of text ≡ Err (At line why)
 
+-- the text is read
 pub record IsReadableTrace (text : List ℕ) : Type 0 where
   pub whole : Trace
   pub reads : ReadsTrace text whole
 
+-- the text isn't read: one of its lines is at fault
 pub record IsFaultyTrace (text : List ℕ) : Type 0 where
   pub line : ℕ
   pub why : InputCause

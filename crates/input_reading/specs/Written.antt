@@ -1,4 +1,4 @@
--- Which lines a run of a cluster prints, and that they are read as the same lines (rule of this project).
+-- Which lines a run of a cluster can print, and that they are read as the same lines (rule of this project).
 use Rattle.std.specs.Prelude.{◌≡◌, ℕ, ◌+◌, ◌^◌, ◌<◌, true, List, [], ◌∷◌, length, Ok}
 use Rattle.std.specs.List.{AllByRecursion, flat_map}
 use Rattle.cluster_types.specs.declared.cluster.Cluster.{Cluster}
@@ -57,7 +57,7 @@ abbrev pub IsSomewhere : Target → Type 0
 IsSomewhere Nowhere = ⊥
 IsSomewhere _ = Unit {0}
 
--- a line that a run of the cluster prints. The rule that holds a leaf back has a name
+-- a line that a run of the cluster can print: its numbers, leaves and nodes are in range, and the id of a rule that holds a leaf back is a name
 abbrev pub IsLineOf : Cluster → RunLine → Type 0
 IsLineOf c (line.Transition k) = IsNumber k
 IsLineOf c (line.Pinned r pin) = r < length c.leaves
@@ -70,7 +70,7 @@ IsLineOf c (line.Complete k) = IsNumber k
 IsLineOf c (line.Aborted k) = IsNumber k
 IsLineOf c (line.Unexpected l) = IsNumber l
 
--- the rule that a line says to hold a leaf back, if it does, has a name
+-- where a line says which rule holds a leaf back, its id is a name
 abbrev pub IsLineNamed : RunLine → Type 0
 IsLineNamed (line.Lacking r (Held id)) = is_name id ≡ true
 IsLineNamed _ = Unit {0}

@@ -20,7 +20,7 @@ ghost use Rattle.input_reading.specs.Status.{told_of};
 ghost use Rattle.input_reading.specs.Grammar.ResultForms.{ResultSays};
 ghost use Rattle.input_reading.specs.Grammar.RunForms.{RunSays};
 ghost use Rattle.input_reading.specs.Grammar.StatusForms.{StatusSays};
-ghost use Rattle.input_reading.specs.declared.status.told.Told.{Told as ToldOf};
+ghost use Rattle.input_reading.specs.declared.status.line_meaning.Told.{Told as ToldOf};
 
 /// The words of a result line are read as an answer, at a moment, just when they say it.
 pub fn result_lines_are_read_as_they_say()

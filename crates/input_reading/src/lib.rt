@@ -53,7 +53,7 @@ pub(crate) use results::answers::answer_of;
 pub use results::result_lines::{ResultLine, read_result, read_results};
 pub use run::run_reading::read_run;
 pub use run::text::{RunText, RunTextLine, TraceFault};
-pub use status::told::{NodeWord, Told};
+pub use status::line_meaning::{NodeWord, Told};
 pub use status::whole::read_status;
 pub use words::by_place::Words;
 pub use words::number_words::code_of;

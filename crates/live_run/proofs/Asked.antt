@@ -11,7 +11,7 @@ use Rattle.input_reading.specs.declared.results.result_lines.ResultLine.{ResultL
 use Rattle.live_run.specs.Coming.{Coming, coming_of, no_more, result_first}
 use Rattle.live_run.specs.Inner.ComingSteps.{Brings, told_coming}
 use Rattle.live_run.specs.Courses.{CourseAnswers, SourceState, answers_to_come, has_course_ended, in_course, is_reading, rest_of, coming_to, told_by, whole_of}
-use Rattle.live_run.specs.declared.came.Came.TheVariants as came
+use Rattle.live_run.specs.declared.line_result.Came.TheVariants as came
 use Rattle.live_run.specs.declared.course.Course.{Course}
 use Rattle.live_run.specs.declared.course.Course.TheVariants as course
 use Rattle.live_run.specs.declared.line_stop.LineStop.{LineStop}

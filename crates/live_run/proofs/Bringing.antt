@@ -15,14 +15,14 @@ use Rattle.crm_lex.proofs.PhysicalLines.{concat-lines, few_lines}
 use Rattle.live_run.specs.Coming.{AreReady, Coming, Lines, coming, coming_of, no_more, said_first}
 use Rattle.live_run.specs.Inner.ComingSteps.{Brings, answers_in, came_first, is_stop_last, said_came, told_coming}
 use Rattle.live_run.specs.Saying.{SaidFits, line_says, place_behind_said, line_says_within, sized_says}
-use Rattle.live_run.specs.declared.came.Came.{Came}
-use Rattle.live_run.specs.declared.came.Came.TheVariants as came
+use Rattle.live_run.specs.declared.line_result.Came.{Came}
+use Rattle.live_run.specs.declared.line_result.Came.TheVariants as came
 use Rattle.live_run.specs.declared.line_stop.LineCause.TheVariants as cause
 use Rattle.live_run.specs.declared.line_stop.LineStop.{LineStop}
 use Rattle.live_run.specs.declared.line_stop.LineStop.TheVariants as why
 use Rattle.live_run.specs.declared.place.Place.{Place}
-use Rattle.live_run.specs.declared.said.Said.{Said}
-use Rattle.live_run.specs.declared.said.Said.TheVariants as said
+use Rattle.live_run.specs.declared.line_meaning.Said.{Said}
+use Rattle.live_run.specs.declared.line_meaning.Said.TheVariants as said
 use Rattle.live_run.proofs.Cuts.{CutAt, cut_at, cut_of}
 
 -- the place and the reading

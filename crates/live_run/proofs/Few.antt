@@ -18,8 +18,8 @@ use Rattle.live_run.specs.Saying.{answer_says, place_behind_said, read_says, lin
 use Rattle.live_run.specs.declared.line_stop.LineCause.TheVariants as cause
 use Rattle.live_run.specs.declared.line_stop.LineStop.TheVariants as why
 use Rattle.live_run.specs.declared.place.Place.{Place}
-use Rattle.live_run.specs.declared.said.Said.{Said}
-use Rattle.live_run.specs.declared.said.Said.TheVariants as said
+use Rattle.live_run.specs.declared.line_meaning.Said.{Said}
+use Rattle.live_run.specs.declared.line_meaning.Said.TheVariants as said
 use Rattle.input_reading.specs.Results.{answer_of, result_of}
 use Rattle.input_reading.specs.declared.history_fault.ResultCause.TheVariants as of_result
 

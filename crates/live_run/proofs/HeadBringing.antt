@@ -14,6 +14,7 @@ use Rattle.crm_lex.specs.declared.fault.LexCause.TheVariants.{LineTooLong}
 use Rattle.crm_lex.proofs.PhysicalLines.{concat-lines, few_lines}
 use Rattle.faults.specs.declared.fault.Fault.{Fault}
 use Rattle.faults.specs.declared.fault.Fault.TheVariants.{At, NoMemory}
+use Rattle.input_reading.specs.declared.input.cause.InputCause.TheVariants.{Words}
 use Rattle.live_run.specs.Followed.{bytes_of, count_lines}
 use Rattle.live_run.specs.Heads.{AllGoOnBehind, CanGoOn, HeadVerdict, KeepsBytes, LineOfHead, begins_results, ends_head, goes_on_behind, has_no_words, head_behind, head_verdict, line_by_size, line_by_words, line_of_head, passes_limit, progress, refused, taken, too_large, verdict_by}
 use Rattle.live_run.specs.Inner.HeadSteps.{BringsHead, came_to, lacks_memory, WhileWell, stop_for}
@@ -83,7 +84,7 @@ only_on ends_head with_it h =
     let large : too_large ≡ with_it = h too_large in
     let none : taken [] 0 0 ≡ with_it = h (taken [] 0 0) in
     absurd (let f : ⊥ = cc in f)
-only_on (has_no_words line why) with_it h = let large : too_large ≡ refused line why = h too_large in absurd (let f : ⊥ = cc in f)
+only_on (has_no_words line why) with_it h = let large : too_large ≡ refused line (Words why) = h too_large in absurd (let f : ⊥ = cc in f)
 only_on passes_limit with_it h = let none : taken [] 0 0 ≡ too_large = h (taken [] 0 0) in absurd (let f : ⊥ = cc in f)
 
 pub line_on : (text : List ℕ) (old new : Reading) (before : Option (List ℕ)) (left : List ℕ) → ReaderAnswered Line old new before (Some left)
@@ -188,9 +189,9 @@ stop_brings text old new before (Some left) step why h a sized came other given 
     ∙ sym (came (head_behind text new left)))
 
 pub too_long_brings : (text : List ℕ) (old new : Reading) (before after : Option (List ℕ)) → ReaderAnswered TooLong old new before after
-    → BringsHead (Some (Err (stop.Refused old.next LineTooLong))) (progress text old) (progress text new) before after
+    → BringsHead (Some (Err (stop.Refused old.next (Words LineTooLong)))) (progress text old) (progress text new) before after
 too_long_brings text old new before after a =
-    stop_brings text old new before after TooLong (stop.Refused old.next LineTooLong) (refused old.next LineTooLong) a (λ raw ends goes_on. refl) (λ others. refl)
+    stop_brings text old new before after TooLong (stop.Refused old.next (Words LineTooLong)) (refused old.next (Words LineTooLong)) a (λ raw ends goes_on. refl) (λ others. refl)
     (λ e. cc) (λ e. cc)
 
 pub too_large_brings : (text : List ℕ) (old new : Reading) (before after : Option (List ℕ)) → ReaderAnswered TooLarge old new before after

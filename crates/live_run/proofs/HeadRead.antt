@@ -19,6 +19,8 @@ use Rattle.crm_lex.proofs.Pieces.{AllOwn}
 use Rattle.faults.specs.declared.fault.Fault.{Fault}
 use Rattle.faults.specs.declared.fault.Fault.TheVariants.{At, NoMemory}
 use Rattle.faults.specs.Reading.{unless}
+use Rattle.input_reading.specs.declared.input.cause.InputCause.{InputCause}
+use Rattle.input_reading.specs.declared.input.cause.InputCause.TheVariants.{Words}
 use Rattle.input_reading.proofs.Faults.{StandsAt, first_group}
 use Rattle.live_run.specs.Heads as heads
 use Rattle.live_run.proofs.LinesJoined.{bytes_in, count_physical, none_first}
@@ -44,10 +46,16 @@ pub record HasHead (before : List ℕ) (room n : ℕ) (groups : List (List (List
   pub clean : faults_from n first ≡ []
   pub ends : EndsHead (rows_from n first) more
 
+-- lines can't all be cut into words: this is their first fault
+pub record LackWords (n : ℕ) (groups : List (List (List ℕ))) (line : ℕ) (why : InputCause) : Type 0 where
+  pub lack : LexCause
+  pub is_lack : why ≡ Words lack
+  pub first : first_lex_fault (faults_from n groups) ≡ Some (At line lack)
+
 -- what a verdict says: a head; the first fault of the lines; or that they don't lie within the limit
 abbrev pub SaysHead : List ℕ → ℕ → ℕ → List (List (List ℕ)) → heads.HeadVerdict → Type 0
 SaysHead before room n groups (heads.taken text next left) = HasHead before room n groups text next left
-SaysHead before room n groups (heads.refused line why) = first_lex_fault (faults_from n groups) ≡ Some (At line why)
+SaysHead before room n groups (heads.refused line why) = LackWords n groups line why
 SaysHead before room n groups heads.too_large = room < length (bytes_in groups)
 
 short_within : (room : ℕ) (lines : List (List ℕ)) → content_within room lines ≤ content_length lines
@@ -122,7 +130,8 @@ module _ (before : List ℕ) (room n : ℕ) (group : List (List ℕ)) (groups : 
         clean = none_first (faults n group) (faults_from (n + length group) h.first) clean h.clean;
         ends = ends_behind h.first h.more plain h.ends;
       }
-  goes_on (heads.refused line why) fits clean plain h = fault_behind (faults n group) (faults_from (n + length group) groups) line why clean h
+  goes_on (heads.refused line why) fits clean plain h =
+      record { lack = h.lack; is_lack = h.is_lack; first = fault_behind (faults n group) (faults_from (n + length group) groups) line h.lack clean h.first }
   goes_on heads.too_large fits clean plain h = let size = length-append (concat group) (bytes_in groups) in omega (arith, h, size)
 
   -- by the words of the first line
@@ -153,7 +162,7 @@ module _ (before : List ℕ) (room n : ℕ) (group : List (List ℕ)) (groups : 
   of_faults : (verdict : heads.HeadVerdict) (found : List (Fault LexCause)) → length (concat group) ≤ room → faults n group ≡ found → Behind verdict
       → SaysHead before room n (group ∷ groups) (heads.verdict_by (heads.line_by_words (unless (first_lex_fault found) (words_of (line_text group)))) With verdict)
   of_faults verdict [] fits clean h = of_words verdict (words_of (line_text group)) fits refl clean h
-  of_faults verdict (At line why ∷ found) fits at h = rw at refl
+  of_faults verdict (At line why ∷ found) fits at h = record { lack = why; is_lack = refl; first = rw at refl }
   of_faults verdict (NoMemory ∷ found) fits at h = absurd (subst (λ (faults : List (Fault LexCause)). StandsAt (first_lex_fault faults)) at (first_group n group))
 
   of_size : (verdict : heads.HeadVerdict) (size : LineStep) → SaysSize room group size → physical_lines (concat group) ≡ group → Behind verdict
@@ -161,7 +170,7 @@ module _ (before : List ℕ) (room n : ℕ) (group : List (List ℕ)) (groups : 
   of_size verdict step.Line s own h =
       subst (λ (read : _). SaysHead before room n (group ∷ groups) (heads.verdict_by (heads.line_by_words read) With verdict)) (sym (line_read n group own))
       (of_faults verdict (faults n group) s refl h)
-  of_size verdict step.TooLong s own h = s n (faults_from (n + length group) groups)
+  of_size verdict step.TooLong s own h = record { lack = LineTooLong; is_lack = refl; first = s n (faults_from (n + length group) groups) }
   of_size verdict step.TooLarge s own h = let size = length-append (concat group) (bytes_in groups) in omega (arith, s, size)
   of_size verdict step.End s own h = absurd s
   of_size verdict step.Failed s own h = absurd s

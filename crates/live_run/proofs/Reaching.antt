@@ -1,6 +1,5 @@
 -- What a run over result lines has read and written at each of its ends.
 use Rattle.std.proofs.Common.{◌≡◌, ◌≢◌, ◌⊎◌, ◌↔◌, inl, inr, ℕ, ◌-◌, Bool, true, false, Option, Some, None, List, [], ◌∷◌, ◌++◌, is_none, map, option_map, IfSome, length, append_assoc, append-nil, refl, ap, sym, subst, ◌∙◌, arith}
-use Rattle.std.proofs.Math.Seq.{take-length}
 use Rattle.std.proofs.lemmas.Grind.{flat_map-append}
 use Rattle.std.proofs.lemmas.List.{append_cancel_right, map-append}
 use Rattle.std.proofs.lemmas.Option.{same_Some}
@@ -22,8 +21,8 @@ use Rattle.live_run.specs.Courses.{SourceState, answers_to_come, in_course, rest
 use Rattle.live_run.specs.Followed.{AreNear, NoneOrLastSays, SourceFollows, HasBroken, HasQuestionFailed, HasStopped, View, by_line, by_source, bytes_of, results_first, said_by}
 use Rattle.live_run.specs.Saying.{is_last}
 use Rattle.live_run.specs.LineCauses.{line_refusal_text}
-use Rattle.live_run.specs.Inner.Fronts.{prefix_first}
-use Rattle.live_run.proofs.Written.{all_left, all_out, front_left, front_out, none_left}
+use Rattle.live_run.specs.Inner.Fronts.{adds_none, front_prefix, prefix_first, short_behind, whole_prefix}
+use Rattle.live_run.proofs.Written.{all_left, all_out, none_left}
 use Rattle.live_run.specs.declared.course.Course.{Course}
 use Rattle.live_run.specs.declared.course.Course.TheVariants as course
 use Rattle.live_run.specs.declared.line_stop.LineStop.{LineStop}
@@ -38,7 +37,7 @@ use Rattle.live_run.proofs.Dues.{begins_due, one_end}
 use Rattle.input_reading.specs.declared.results.result_lines.ResultLine.{ResultLine}
 use Rattle.graph_exec.specs.Replays.{setting, sight}
 use Rattle.graph_exec.proofs.Whole.{asks_still}
-use Rattle.live_run.specs.Writing.{GoesOut, with_last}
+use Rattle.live_run.specs.Writing.{CutsShort, GoesOut, last_text}
 use Rattle.graph_exec.specs.Replays as replays
 use Rattle.graph_exec.specs.RunEnds.{at_most, in_failure, unexpected, with_all}
 use Rattle.run_safety.specs.Followed.{IsFront, at_first}
@@ -49,12 +48,9 @@ use Rattle.live_run.proofs.Given.{CutBy, cut_by, given_by}
 use Rattle.run_safety.proofs.Silent.{not_over}
 use Rattle.run_safety.proofs.SoFar.{runs_more}
 
--- all of a text is a front of it
-whole_prefix : (text : List ℕ) (old new : Option (List ℕ)) → Adds old text new → AddsPrefix text old new
-whole_prefix text old new a = record { count = length text; within = omega arith; added = subst (λ (t : List ℕ). Adds old t new) (sym (take-length text)) a }
-
-front_prefix : (xs text : List ℕ) (old new : Option (List ℕ)) → IsFront xs text → AddsPrefix xs old new → AddsPrefix text old new
-front_prefix xs text old new f p = subst (λ (t : List ℕ). AddsPrefix t old new) (sym f.joined) (prefix_first xs f.more old new p)
+-- what was held back has left, or a front of it
+front_of : (text : List ℕ) (old new : Option (List ℕ)) → CutsShort text [] old new → AddsPrefix text old new
+front_of text old new short = subst (λ (t : List ℕ). AddsPrefix t old new) (append-nil text) short.front
 
 module _ (c : Cluster) (journal : Journal) (reading : Reading) where
   abbrev start : SourceState
@@ -98,8 +94,8 @@ module _ (c : Cluster) (journal : Journal) (reading : Reading) where
         → Runs c journal.promotions (is_none (results_behind c journal reading left).stop) (due 1 journal.events) (Some (answers_to_come (results_behind c journal reading left))) lines at
         (rest_of (told_by t after))
         → IsAsking c journal.promotions (is_none (results_behind c journal reading left).stop) at ⊎ IsBetween c journal.promotions (is_none (results_behind c journal reading left).stop) at
-        → AddsPrefix (run_lines_text c lines) old new → IsCutOff c journal reading left after old new
-    rest_cut left after old new t f lines at runs rests front =
+        → CutsShort (run_lines_text c lines) [] old new → IsCutOff c journal reading left after old new
+    rest_cut left after old new t f lines at runs rests cut =
         let g = given_by c journal reading left after t f in
         let coming = results_behind c journal reading left in
         let run = subst (λ (x : Option (List Answer)). Runs c journal.promotions (is_none coming.stop) (due 1 journal.events) (Some (answers_to_come coming)) lines at x) g.rest runs in
@@ -115,9 +111,10 @@ module _ (c : Cluster) (journal : Journal) (reading : Reading) where
             one_more = inl refl;
           });
           read = g.read;
-          front = subst (λ (x : List ℕ). AddsPrefix x old new) (sym (append-nil (run_lines_text c lines))) front;
+          cut = cut;
           begins = λ other whole gets.
-              front_prefix (run_lines_text c lines) whole old new (begins_due c journal coming at (Some (map answer_in g.behind)) lines other whole run gets) front;
+              front_prefix (run_lines_text c lines) whole old new (begins_due c journal coming at (Some (map answer_in g.behind)) lines other whole run gets)
+              (front_of (run_lines_text c lines) old new cut);
         }
 
     done_reached : (before after old middle new : Option (List ℕ)) (held : List ℕ) (t : SourceState) (was is : Bool) (j : Journal) → Tells old middle held
@@ -142,7 +139,7 @@ module _ (c : Cluster) (journal : Journal) (reading : Reading) where
         }
         by end.WriteFault put =
             rest_cut left after old new t f w.lines w.ended.run.last runs (inr (over_between (is_none all.stop) w.ended.run.last w.ended.run.behind w.ended.run.over))
-            (front_left (run_lines_text c w.lines) held old middle new (tells w.lines w.told) put)
+            (short_behind (run_lines_text c w.lines) [] held [] old middle new (tells w.lines w.told) put)
         by end.Unexpected put = absurd put
         by end.Refused put = absurd put
         by end.TooLarge put = absurd put
@@ -152,30 +149,32 @@ module _ (c : Cluster) (journal : Journal) (reading : Reading) where
     -- behind a run that is cut
     unexpected_reached : (before after old middle new : Option (List ℕ)) (held : List ℕ) (t : SourceState) (was is : Bool) (j : Journal) (a : Answer) → Tells old middle held
         → replays.IsTold Follows Stopped (along before after old middle t was is) journal.events (sight (rest_of (told_by start before)) was) (sight (rest_of (told_by t after)) is) j (unexpected a)
-        → SourceFollows start t before after → (how : LiveEnd) → EndsCut (held ++ run_line c (line.Unexpected t.line)) how middle new → reaches before after old new t was is how
+        → SourceFollows start t before after → (how : LiveEnd) → EndsCut held (run_line c (line.Unexpected t.line)) how middle new → reaches before after old new t was is how
     unexpected_reached None after old middle new held t was is j a tells w f how e = tt
     unexpected_reached (Some left) after old middle new held t was is j a tells w f how e =
         let cut = cut_by c journal reading left after t w.lines j.events a w.ended f in
-        by cut how (subst (λ (n : ℕ). EndsCut (held ++ run_line c (line.Unexpected n)) how middle new) cut.line e)
+        by cut how (subst (λ (n : ℕ). EndsCut held (run_line c (line.Unexpected n)) how middle new) cut.line e)
       where
         text_is : (cut : CutBy c journal reading left after t w.lines) → EndGets c journal (results_behind c journal reading left) end.Unexpected (run_lines_text c w.lines ++ run_line c (line.Unexpected cut.result.line))
         text_is cut = record { lines = w.lines; given = cut.given; result = cut.result; run = cut.run; printed = refl }
 
-        by : (cut : CutBy c journal reading left after t w.lines) (how : LiveEnd) → EndsCut (held ++ run_line c (line.Unexpected cut.result.line)) how middle new → Reaches c journal reading left after old new how
+        by : (cut : CutBy c journal reading left after t w.lines) (how : LiveEnd) → EndsCut held (run_line c (line.Unexpected cut.result.line)) how middle new → Reaches c journal reading left after old new how
         by cut end.Unexpected put = record {
           text = run_lines_text c w.lines ++ run_line c (line.Unexpected cut.result.line);
           gets = text_is cut;
-          added = all_out (run_lines_text c w.lines) held (run_line c (line.Unexpected cut.result.line)) old middle new (tells w.lines w.told) put;
+          added = all_out (run_lines_text c w.lines) held old middle new (tells w.lines w.told) (run_line c (line.Unexpected cut.result.line)) put;
         }
-        by cut end.WriteFault put = record {
-          call = of_unexpected (record { printed = w.lines; given = cut.given; result = cut.result; run = cut.run });
-          read = cut.read;
-          front = front_out (run_lines_text c w.lines) held (run_line c (line.Unexpected cut.result.line)) old middle new (tells w.lines w.told) put;
-          begins = λ other whole gets.
-              subst (λ (x : List ℕ). AddsPrefix x old new)
-              (one_end c journal (results_behind c journal reading left) end.Unexpected other (run_lines_text c w.lines ++ run_line c (line.Unexpected cut.result.line)) whole (text_is cut) gets).1
-              (front_out (run_lines_text c w.lines) held (run_line c (line.Unexpected cut.result.line)) old middle new (tells w.lines w.told) put);
-        }
+        by cut end.WriteFault put =
+            let short = short_behind (run_lines_text c w.lines) [] held (run_line c (line.Unexpected cut.result.line)) old middle new (tells w.lines w.told) put in
+            record {
+              call = of_unexpected (record { printed = w.lines; given = cut.given; result = cut.result; run = cut.run });
+              read = cut.read;
+              cut = short;
+              begins = λ other whole gets.
+                  subst (λ (x : List ℕ). AddsPrefix x old new)
+                  (one_end c journal (results_behind c journal reading left) end.Unexpected other (run_lines_text c w.lines ++ run_line c (line.Unexpected cut.result.line)) whole (text_is cut) gets).1
+                  short.front;
+            }
         by cut end.Done put = absurd put
         by cut end.Refused put = absurd put
         by cut end.TooLarge put = absurd put
@@ -243,6 +242,10 @@ module _ (c : Cluster) (journal : Journal) (reading : Reading) where
               };
             }
 
+    -- a failed read isn't the last
+    no_last : (w : LineStop) → is_last w ≡ true → Some why.ReadFault ≡ Some w → ⊥
+    no_last w last e = let same : w ≡ why.ReadFault = cc in let wrong : false ≡ true = ap is_last (sym same) ∙ last in cc
+
     -- a line stops the reading, so that nothing comes behind it
     stops_here : (t : SourceState) (w : LineStop) (rest : List ℕ) → is_last w ≡ true → stop_of t ≡ Some w → coming_to t rest ≡ no_more (Some w)
     stops_here t w rest last stop = by t.course t.failed stop
@@ -250,15 +253,9 @@ module _ (c : Cluster) (journal : Journal) (reading : Reading) where
         by : (k : Course) (failed : Bool) → why_stopped k failed ≡ Some w
             → in_course k (coming t.cluster t.lines.reading.longest t.lines.at t.lines.reading.room (raw_lines (t.lines.reading.held ++ rest))) ≡ no_more (Some w)
         by (course.Stopped v times) failed e = ap no_more e
-        by course.Reading true e = no_last e
-          where
-            no_last : Some why.ReadFault ≡ Some w → in_course course.Reading (coming t.cluster t.lines.reading.longest t.lines.at t.lines.reading.room (raw_lines (t.lines.reading.held ++ rest))) ≡ no_more (Some w)
-            no_last e = let same : w ≡ why.ReadFault = cc in let wrong : false ≡ true = ap is_last (sym same) ∙ last in absurd (let f : ⊥ = cc in f)
+        by course.Reading true e = absurd (no_last w last e)
         by course.Reading false e = cc
-        by course.Ended true e = no_last e
-          where
-            no_last : Some why.ReadFault ≡ Some w → no_more None ≡ no_more (Some w)
-            no_last e = let same : w ≡ why.ReadFault = cc in let wrong : false ≡ true = ap is_last (sym same) ∙ last in absurd (let f : ⊥ = cc in f)
+        by course.Ended true e = absurd (no_last w last e)
         by course.Ended false e = cc
 
     -- what is written where a line stops the reading
@@ -270,17 +267,17 @@ module _ (c : Cluster) (journal : Journal) (reading : Reading) where
     stopped_by left after old middle new held printed added given (why.Refused n cause) all stop more lines first said ends bytes taken near end.Refused put last = record {
       text = run_lines_text c printed ++ line_refusal_text n cause;
       gets = record { lines = printed; line = n; cause = cause; stop = stop; run = more; printed = refl };
-      added = all_out (run_lines_text c printed) held (line_refusal_text n cause) old middle new added put;
+      added = all_out (run_lines_text c printed) held old middle new added (line_refusal_text n cause) put;
     }
     stopped_by left after old middle new held printed added given (why.Refused n cause) all stop more lines first said ends bytes taken near end.WriteFault put last = record {
       call = of_refusal (record { printed = printed; line = n; cause = cause; stop = stop; run = more });
       read = inl (record { lines = lines; first = first; said = said ∙ sym all; ends = ends; bytes = bytes; taken = taken; near = near });
-      front = front_out (run_lines_text c printed) held (line_refusal_text n cause) old middle new added put;
+      cut = short_behind (run_lines_text c printed) [] held (line_refusal_text n cause) old middle new added put;
       begins = λ other whole gets.
           subst (λ (x : List ℕ). AddsPrefix x old new)
           (one_end c journal (results_behind c journal reading left) end.Refused other (run_lines_text c printed ++ line_refusal_text n cause) whole
           (record { lines = printed; line = n; cause = cause; stop = stop; run = more; printed = refl }) gets).1
-          (front_out (run_lines_text c printed) held (line_refusal_text n cause) old middle new added put);
+          (short_behind (run_lines_text c printed) [] held (line_refusal_text n cause) old middle new added put).front;
     }
     stopped_by left after old middle new held printed added given why.TooLarge all stop more lines first said ends bytes taken near end.TooLarge put last = record {
       text = run_lines_text c printed;
@@ -289,7 +286,7 @@ module _ (c : Cluster) (journal : Journal) (reading : Reading) where
     }
     stopped_by left after old middle new held printed added given why.TooLarge all stop more lines first said ends bytes taken near end.WriteFault put last =
         let coming = results_behind c journal reading left in
-        let front = front_left (run_lines_text c printed) held old middle new added put in
+        let short = short_behind (run_lines_text c printed) [] held [] old middle new added put in
         record {
           call = at_rest (record {
             printed = printed;
@@ -303,10 +300,11 @@ module _ (c : Cluster) (journal : Journal) (reading : Reading) where
             one_more = inr refl;
           });
           read = inl (record { lines = lines; first = first; said = said ∙ sym all; ends = ends; bytes = bytes; taken = taken; near = near });
-          front = subst (λ (x : List ℕ). AddsPrefix x old new) (sym (append-nil (run_lines_text c printed))) front;
+          cut = short;
           begins = λ other whole gets.
               subst (λ (x : List ℕ). AddsPrefix x old new)
-              (one_end c journal coming end.TooLarge other (run_lines_text c printed) whole (record { lines = printed; stop = stop; run = more; printed = refl }) gets).1 front;
+              (one_end c journal coming end.TooLarge other (run_lines_text c printed) whole (record { lines = printed; stop = stop; run = more; printed = refl }) gets).1
+              (front_of (run_lines_text c printed) old new short);
         }
     stopped_by left after old middle new held printed added given why.ReadFault all stop more lines first said ends bytes taken near how put last = let wrong : ⊥ = cc in absurd wrong
     stopped_by left after old middle new held printed added given (why.Refused n cause) all stop more lines first said ends bytes taken near how put last = absurd put
@@ -317,9 +315,6 @@ module _ (c : Cluster) (journal : Journal) (reading : Reading) where
         → HasStopped start t (Some left) after → (how : LiveEnd) → EndsLines held (stop_of t) how middle new → Reaches c journal reading left after old new how
     stopped_reached left after old middle new held t was is j tells w h how e = on after refl h.told
       where
-        abbrev_none : Unit {0}
-        abbrev_none = tt
-
         on : (o : Option (List ℕ)) → o ≡ after → Some (results_behind c journal reading left) ≡ option_map (λ (rest : List ℕ). record { results = h.given; stop = Some h.why }) o
             → Reaches c journal reading left after old new how
         on None o f = cc
@@ -358,7 +353,7 @@ module _ (c : Cluster) (journal : Journal) (reading : Reading) where
 
     -- the writer stopped the run
     cut_off_reached : (before after old new : Option (List ℕ)) (t : SourceState) (was is : Bool) (j : Journal)
-        → ((lines : List RunLine) (at : Option RunLine) → Stopped lines at → AddsPrefix (run_lines_text c (with_last lines at)) old new)
+        → ((lines : List RunLine) (at : Option RunLine) → Stopped lines at → CutsShort (run_lines_text c lines) (last_text c at) old new)
         → replays.IsStopped Follows Stopped (along before after old new t was is) journal.events (sight (rest_of (told_by start before)) was) (sight (rest_of (told_by t after)) is) j
         ⊎ replays.IsStoppedAsking Follows Stopped (along before after old new t was is) journal.events (sight (rest_of (told_by start before)) was) (sight (rest_of (told_by t after)) is) j
         → SourceFollows start t before after → reaches before after old new t was is end.WriteFault
@@ -371,27 +366,30 @@ module _ (c : Cluster) (journal : Journal) (reading : Reading) where
         let run = subst (λ (x : Option (List Answer)). IsStoppedRun c journal.promotions (is_none coming.stop) journal.events (Some (answers_to_come coming)) w.lines w.call w.closing j.events x) g.rest w.run in
         let on = runs_more c journal.promotions (is_none coming.stop) (due 1 journal.events) run.before run.next (Some (answers_to_come coming)) run.middle (Some (map answer_in g.behind)) w.lines w.call
         run.steps run.stopped in
-        let told : w.lines ++ w.call ≡ ((w.lines ++ w.told.before) ++ w.told.at ∷ []) ++ w.told.behind
-        = ap (λ (ls : List RunLine). w.lines ++ ls) w.told.parts
-        ∙ (sym (append_assoc w.lines w.told.before (w.told.at ∷ w.told.behind)) ∙ sym (append_assoc (w.lines ++ w.told.before) (w.told.at ∷ []) w.told.behind)) in
+        let told = w.lines ++ w.told.before in
+        let text : run_lines_text c (w.lines ++ w.call) ≡ (run_lines_text c told ++ run_line c w.told.at) ++ run_lines_text c w.told.behind
+        = ap (run_lines_text c) (ap (λ (ls : List RunLine). w.lines ++ ls) w.told.parts ∙ sym (append_assoc w.lines w.told.before (w.told.at ∷ w.told.behind)))
+        ∙ (flat_map-append (run_line c) told (w.told.at ∷ w.told.behind) ∙ sym (append_assoc (run_lines_text c told) (run_line c w.told.at) (run_lines_text c w.told.behind))) in
+        let short : CutsShort (run_lines_text c told) (run_line c w.told.at) old new = stops told (Some w.told.at) w.told.stopped in
         let front : AddsPrefix (run_lines_text c (w.lines ++ w.call)) old new
-        = subst (λ (x : List ℕ). AddsPrefix x old new)
-        (sym (ap (run_lines_text c) told ∙ flat_map-append (run_line c) ((w.lines ++ w.told.before) ++ w.told.at ∷ []) w.told.behind))
-        (prefix_first (run_lines_text c ((w.lines ++ w.told.before) ++ w.told.at ∷ [])) (run_lines_text c w.told.behind) old new
-        (stops (w.lines ++ w.told.before) (Some w.told.at) w.told.stopped)) in
+        = subst (λ (x : List ℕ). AddsPrefix x old new) (sym text)
+        (prefix_first (run_lines_text c told ++ run_line c w.told.at) (run_lines_text c w.told.behind) old new short.front) in
         record {
           call = in_run (record {
             printed = w.lines;
-            told = w.call;
+            told = w.told.before;
+            at = w.told.at;
+            untold = w.told.behind;
             closing = w.closing;
             journal_now = j.events;
             given = g.given;
             behind = g.behind;
             split = g.split;
-            run = run;
+            run = subst (λ (ls : List RunLine). IsStoppedRun c journal.promotions (is_none coming.stop) journal.events (Some (answers_to_come coming)) w.lines ls w.closing j.events
+                (Some (map answer_in g.behind))) w.told.parts run;
           });
           read = g.read;
-          front = subst (λ (x : List ℕ). AddsPrefix x old new) (flat_map-append (run_line c) w.lines w.call) front;
+          cut = short;
           begins = λ other whole gets.
               front_prefix (run_lines_text c (w.lines ++ w.call)) whole old new
               (begins_due c journal coming run.next (Some (map answer_in g.behind)) (w.lines ++ w.call) other whole on gets) front;
@@ -422,7 +420,7 @@ module _ (c : Cluster) (journal : Journal) (reading : Reading) where
                   (whole_prefix (run_lines_text c w.lines) old new added);
             }
         by end.WriteFault put =
-            rest_cut left after old new t f w.lines w.at w.run (inr w.between) (front_left (run_lines_text c w.lines) held old middle new (tells w.lines w.told) put)
+            rest_cut left after old new t f w.lines w.at w.run (inr w.between) (short_behind (run_lines_text c w.lines) [] held [] old middle new (tells w.lines w.told) put)
         by end.Done put = absurd put
         by end.Unexpected put = absurd put
         by end.Refused put = absurd put
@@ -441,10 +439,6 @@ module _ (c : Cluster) (journal : Journal) (reading : Reading) where
         never_most c journal.promotions (is_none coming.stop) journal.events (Some (answers_to_come coming)) (rest_of (told_by t after)) w.lines tt 10001 j.events (omega (arith, count, size)) w.ended
 
 -- there is no memory for the first line: nothing was written
-nothing_added : (text : Option (List ℕ)) → Adds text [] text
-nothing_added None = refl
-nothing_added (Some t) = ap Some (sym (append-nil t))
-
 pub nothing_reached : (c : Cluster) (journal : Journal) (reading : Reading) (before after text : Option (List ℕ))
     → IfSome before (λ left. Reaches c journal reading left after text text end.NoMemory)
 nothing_reached c journal reading None after text = tt
@@ -459,10 +453,10 @@ nothing_reached c journal reading (Some left) after text =
       run = runs;
       between = tt;
       ends = at_first;
-      added = nothing_added text;
+      added = adds_none text;
       begins = λ other whole gets.
           front_prefix [] whole text text (begins_due c journal coming (due 1 journal.events) (Some (answers_to_come coming)) [] other whole runs gets)
-          (whole_prefix [] text text (nothing_added text));
+          (whole_prefix [] text text (adds_none text));
     }
 
 -- which end a run gets, where no count rose and memory sufficed
@@ -505,20 +499,20 @@ module _ (c : Cluster) (journal : Journal) (reading : Reading) (s t : SourceStat
   done_from tells w f how e = done_reached c journal reading Follows Stopped before after old middle new held t was is j (tells_so tells) (rw fresh at w) (rw fresh at f) how e
 
   pub unexpected_from : (a : Answer) → TellsBy → replays.IsTold Follows Stopped from journal.events (sight (rest_of (told_by s before)) was) (sight (rest_of (told_by t after)) is) j (unexpected a) → SourceFollows s t before after
-      → (how : LiveEnd) → EndsCut (held ++ run_line d (line.Unexpected t.line)) how middle new → IfSome before (λ left. Reaches c journal reading left after old new how)
-  unexpected_from a tells w f how e = unexpected_reached c journal reading Follows Stopped before after old middle new held t was is j a (tells_so tells) (rw fresh at w) (rw fresh at f) how (subst (λ (x : Cluster). EndsCut (held ++ run_line x (line.Unexpected t.line)) how middle new) names e)
+      → (how : LiveEnd) → EndsCut held (run_line d (line.Unexpected t.line)) how middle new → IfSome before (λ left. Reaches c journal reading left after old new how)
+  unexpected_from a tells w f how e = unexpected_reached c journal reading Follows Stopped before after old middle new held t was is j a (tells_so tells) (rw fresh at w) (rw fresh at f) how (subst (λ (x : Cluster). EndsCut held (run_line x (line.Unexpected t.line)) how middle new) names e)
 
   pub failed_from : TellsBy → (stop_of t ≡ Some why.ReadFault → held ≡ []) → replays.IsTold Follows Stopped from journal.events (sight (rest_of (told_by s before)) was) (sight (rest_of (told_by t after)) is) j in_failure
       → HasBroken s t before after ⊎ HasStopped s t before after → (how : LiveEnd) → EndsLines held (stop_of t) how middle new → IfSome before (λ left. Reaches c journal reading left after old new how)
   failed_from tells quiet w f how e = failed_reached c journal reading Follows Stopped before after old middle new held t was is j (tells_so tells) quiet (rw fresh at w) (rw fresh at f) how e
 
-  pub cut_off_from : ((lines : List RunLine) (at : Option RunLine) → Stopped lines at → AddsPrefix (run_lines_text d (with_last lines at)) old new)
+  pub cut_off_from : ((lines : List RunLine) (at : Option RunLine) → Stopped lines at → CutsShort (run_lines_text d lines) (last_text d at) old new)
       → replays.IsStopped Follows Stopped from journal.events (sight (rest_of (told_by s before)) was) (sight (rest_of (told_by t after)) is) j
       ⊎ replays.IsStoppedAsking Follows Stopped from journal.events (sight (rest_of (told_by s before)) was) (sight (rest_of (told_by t after)) is) j → SourceFollows s t before after
       → IfSome before (λ left. Reaches c journal reading left after old new end.WriteFault)
   cut_off_from stops w f =
       cut_off_reached c journal reading Follows Stopped before after old new t was is j
-      (λ lines at told. subst (λ (x : Cluster). AddsPrefix (run_lines_text x (with_last lines at)) old new) names (stops lines at told)) (rw fresh at w) (rw fresh at f)
+      (λ lines at told. subst (λ (x : Cluster). CutsShort (run_lines_text x lines) (last_text x at) old new) names (stops lines at told)) (rw fresh at w) (rw fresh at f)
 
   pub between_from : TellsBy → replays.IsBetweenTwo Follows Stopped from journal.events (sight (rest_of (told_by s before)) was) (sight (rest_of (told_by t after)) is) → SourceFollows s t before after
       → (how : LiveEnd) → EndsWithoutMemory held how middle new → IfSome before (λ left. Reaches c journal reading left after old new how)

@@ -8,8 +8,8 @@ use Rattle.input_reading.specs.Results.{result_of}
 use Rattle.live_run.specs.Saying.{answer_says, read_says, refused_for, words_say}
 use Rattle.live_run.specs.declared.line_stop.LineCause.TheVariants as cause
 use Rattle.live_run.specs.declared.place.Place.{Place}
-use Rattle.live_run.specs.declared.said.Said.{Said}
-use Rattle.live_run.specs.declared.said.Said.TheVariants as said
+use Rattle.live_run.specs.declared.line_meaning.Said.{Said}
+use Rattle.live_run.specs.declared.line_meaning.Said.TheVariants as said
 
 counted : (words : Kept) (all : List (List ℕ)) → words ≡ kept all → words.count ≡ length all
 counted words all e = ap (λ (k : Kept). k.count) e

@@ -1,6 +1,6 @@
 -- What is written of several lines, one after the other, and what is held back of them.
 use Rattle.std.specs.Prelude.{IsErr, OnErr, OnOk}
-use Rattle.std.proofs.Common.{◌≡◌, ℕ, Bool, Option, Some, None, Result, Ok, Err, List, [], ◌∷◌, ◌++◌, append-nil, append_assoc, refl, ap, sym, subst, ◌∙◌}
+use Rattle.std.proofs.Common.{◌≡◌, ◌≤◌, ℕ, Bool, Option, Some, None, Result, Ok, Err, List, [], ◌∷◌, ◌++◌, append-nil, append_assoc, length, length-append, refl, ap, sym, subst, ◌∙◌, arith}
 use Rattle.std.proofs.lemmas.Grind.{flat_map-append}
 use Rattle.cluster_io.specs.Streams.{Adds, AddsPrefix, Bears}
 use Rattle.cluster_io.specs.declared.sink.WriteFault.{WriteFault}
@@ -12,14 +12,9 @@ use Rattle.cluster_types.specs.Texts.{run_line}
 use Rattle.graph_exec.specs.declared.transition.watcher.Heard.TheVariants as heard
 use Rattle.graph_exec.specs.Telling.{StopsAmong}
 use Rattle.live_run.specs.Ends.{run_lines_text}
-use Rattle.live_run.specs.FollowedLaws.{fails_then, goes_then}
-use Rattle.live_run.specs.Inner.Fronts.{prefix_then}
-use Rattle.live_run.specs.Writing.{GoesOut, HasFailedBehind, HasWrittenLines, IsSameSink, Puts, PutsBehind, PutsLines, WriterView, heard_of}
-
--- nothing is added
-pub adds_none : (text : Option (List ℕ)) → Adds text [] text
-adds_none None = refl
-adds_none (Some t) = ap Some (sym (append-nil t))
+use Rattle.live_run.specs.FollowedLaws.{goes_then}
+use Rattle.live_run.specs.Inner.Fronts.{adds_none, short_behind, short_first, short_rest}
+use Rattle.live_run.specs.Writing.{CutsShort, GoesOut, HasFailedBehind, HasWrittenLines, IsSameSink, Puts, PutsBehind, PutsLast, PutsLines, WriterView, heard_of, most_held}
 
 -- what one `write_text` has written
 pub puts_written : (r : Result (Unit {0}) WriteFault) (text : List ℕ) (before after : Option (List ℕ)) → OnOk r (Adds before text after) → OnErr r (AddsPrefix text before after)
@@ -37,11 +32,13 @@ leaves_first text held held_now before after a is = record { out = held; parts =
 
 -- and then all leaves
 pub goes_all : (r : Result (Unit {0}) WriteFault) (text held held_then : List ℕ) (before middle after : Option (List ℕ)) → GoesOut text held held_then before middle
-    → Puts r held_then middle after → Puts r (held ++ text) before after
-goes_all (Ok done) text held held_then before middle after a p =
+    → Puts r held_then middle after → length held_then ≤ most_held → PutsLast r text held before after
+goes_all (Ok done) text held held_then before middle after a p few =
     subst (λ (t : List ℕ). Adds before t after) (sym a.parts) (Adds-then before middle after a.out held_then a.written p)
-goes_all (Err fault) text held held_then before middle after a p =
-    subst (λ (t : List ℕ). AddsPrefix t before after) (sym a.parts) (prefix_then a.out held_then before middle after a.written p)
+goes_all (Err fault) text held held_then before middle after a p few =
+    let size = ap length a.parts in
+    short_rest held text a.out held_then before middle after a.parts a.written p
+    (omega (arith, few, size, length-append held text, length-append a.out held_then))
 
 one_text : (c : Cluster) (line : RunLine) → run_lines_text c (line ∷ []) ≡ run_line c line
 one_text c line = append-nil (run_line c line)
@@ -67,12 +64,12 @@ module _ (exact : Bool) (old new : WriterView) (same : new.names ≡ old.names) 
     wrote_one (Err fault) p b go = let f : ⊥ = cc in absurd f
 
     pub failed_one : (r : Result (Unit {0}) WriteFault) → PutsBehind r (run_line old.names line) old.held new.held old.written new.written → Bears exact (IsErr r) old.faults new.faults
-        → heard_of r ≡ heard.Stop → HasFailedBehind exact old new (line ∷ [])
+        → heard_of r ≡ heard.Stop → HasFailedBehind exact old new [] (Some line)
     failed_one (Ok done) p b go = let f : ⊥ = cc in absurd f
     failed_one (Err fault) p b go = record {
       names_stay = same;
       put = record { bears = bears_failed exact old.faults new.faults fault b; same_sink = sink };
-      text = subst (λ (t : List ℕ). AddsPrefix (old.held ++ t) old.written new.written) (sym (one_text old.names line)) p;
+      text = subst (λ (t : List ℕ). CutsShort t (run_line old.names line) old.written new.written) (sym (append-nil old.held)) p;
     }
 
   -- the lines of a plan are
@@ -83,7 +80,7 @@ module _ (exact : Bool) (old new : WriterView) (same : new.names ≡ old.names) 
     wrote_lines (Err fault) p b go = let f : ⊥ = cc in absurd f
 
     pub failed_lines : (r : Result (Unit {0}) WriteFault) → PutsLines old.names old.held new.held old.written new.written r lines → Bears exact (IsErr r) old.faults new.faults
-        → heard_of r ≡ heard.Stop → StopsAmong (λ (front : List RunLine) (at : RunLine). HasFailedBehind exact old new (front ++ at ∷ [])) lines
+        → heard_of r ≡ heard.Stop → StopsAmong (λ (front : List RunLine) (at : RunLine). HasFailedBehind exact old new front (Some at)) lines
     failed_lines (Ok done) p b go = let f : ⊥ = cc in absurd f
     failed_lines (Err fault) p b go = record {
       before = p.before;
@@ -103,13 +100,13 @@ module _ (exact : Bool) (old new : WriterView) (same : new.names ≡ old.names) 
   }
   wrote_held (Err fault) p none b go = let f : ⊥ = cc in absurd f
 
-  pub failed_held : (r : Result (Unit {0}) WriteFault) → Puts r old.held old.written new.written → Bears exact (IsErr r) old.faults new.faults
-      → heard_of r ≡ heard.Stop → HasFailedBehind exact old new []
-  failed_held (Ok done) p b go = let f : ⊥ = cc in absurd f
-  failed_held (Err fault) p b go = record {
+  pub failed_held : (r : Result (Unit {0}) WriteFault) → Puts r old.held old.written new.written → length old.held ≤ most_held → Bears exact (IsErr r) old.faults new.faults
+      → heard_of r ≡ heard.Stop → HasFailedBehind exact old new [] None
+  failed_held (Ok done) p few b go = let f : ⊥ = cc in absurd f
+  failed_held (Err fault) p few b go = record {
     names_stay = same;
     put = record { bears = bears_failed exact old.faults new.faults fault b; same_sink = sink };
-    text = subst (λ (t : List ℕ). AddsPrefix t old.written new.written) (sym (append-nil old.held)) p;
+    text = subst (λ (t : List ℕ). CutsShort t [] old.written new.written) (sym (append-nil old.held)) (short_first old.held [] old.written new.written p few);
   }
 
 -- the first of some lines were added, and these are left
@@ -129,27 +126,24 @@ module _ (c : Cluster) (lines : List RunLine) (held held_now : List ℕ) (before
 
   module _ (held_then : List ℕ) (middle : Option (List ℕ)) (left rest : List RunLine) (line : RunLine) (next : left ≡ line ∷ rest)
       (p : IsPut c held held_then before middle lines left) where
-    behind_passed : run_lines_text c (p.passed ++ line ∷ []) ≡ run_lines_text c p.passed ++ run_line c line
-    behind_passed = flat_map-append (run_line c) p.passed (line ∷ []) ∙ ap (λ (t : List ℕ). run_lines_text c p.passed ++ t) (one_text c line)
-
     pub put_more : GoesOut (run_line c line) held_then held_now middle after → IsPut c held held_now before after lines rest
     put_more text = record {
       passed = p.passed ++ line ∷ [];
       parts = p.parts ∙ (ap (λ (ls : List RunLine). p.passed ++ ls) next ∙ sym (append_assoc p.passed (line ∷ []) rest));
-      text = subst (λ (t : List ℕ). GoesOut t held held_now before after) (sym behind_passed)
+      text = subst (λ (t : List ℕ). GoesOut t held held_now before after)
+          (sym (flat_map-append (run_line c) p.passed (line ∷ []) ∙ ap (λ (t : List ℕ). run_lines_text c p.passed ++ t) (one_text c line)))
           (goes_then (run_lines_text c p.passed) (run_line c line) held held_then before middle p.text held_now after text);
     }
 
     -- the sink fails at the next
-    pub put_failed : AddsPrefix (held_then ++ run_line c line) middle after
-        → StopsAmong (λ (front : List RunLine) (at : RunLine). AddsPrefix (held ++ run_lines_text c (front ++ at ∷ [])) before after) lines
-    put_failed front = record {
+    pub put_failed : CutsShort held_then (run_line c line) middle after
+        → StopsAmong (λ (front : List RunLine) (at : RunLine). CutsShort (held ++ run_lines_text c front) (run_line c at) before after) lines
+    put_failed short = record {
       before = p.passed;
       at = line;
       behind = rest;
       parts = p.parts ∙ ap (λ (ls : List RunLine). p.passed ++ ls) next;
-      stopped = subst (λ (t : List ℕ). AddsPrefix (held ++ t) before after) (sym behind_passed)
-          (fails_then (run_lines_text c p.passed) (run_line c line) held held_then before middle p.text after front);
+      stopped = short_behind (run_lines_text c p.passed) held held_then (run_line c line) before middle after p.text short;
     }
 
   -- none is left
@@ -159,38 +153,25 @@ module _ (c : Cluster) (lines : List RunLine) (held held_now : List ℕ) (before
       (sym (p.parts ∙ (ap (λ (ls : List RunLine). p.passed ++ ls) none ∙ append-nil p.passed))) p.text
 
   -- the sink fails at the first
-  pub failed_first : (line : RunLine) (left : List RunLine) → lines ≡ line ∷ left → AddsPrefix (held ++ run_line c line) before after
-      → StopsAmong (λ (front : List RunLine) (at : RunLine). AddsPrefix (held ++ run_lines_text c (front ++ at ∷ [])) before after) lines
-  failed_first line left parts front = record {
+  pub failed_first : (line : RunLine) (left : List RunLine) → lines ≡ line ∷ left → CutsShort held (run_line c line) before after
+      → StopsAmong (λ (front : List RunLine) (at : RunLine). CutsShort (held ++ run_lines_text c front) (run_line c at) before after) lines
+  failed_first line left parts short = record {
     before = [];
     at = line;
     behind = left;
     parts = parts;
-    stopped = subst (λ (t : List ℕ). AddsPrefix (held ++ t) before after) (sym (one_text c line)) front;
+    stopped = subst (λ (t : List ℕ). CutsShort t (run_line c line) before after) (sym (append-nil held)) short;
   }
 
--- a text was added where nothing was held back, and then all leaves with a last text behind it
-module _ (text held last : List ℕ) (old middle new : Option (List ℕ)) (a : GoesOut text [] held old middle) where
-  behind_all : a.out ++ (held ++ last) ≡ text ++ last
-  behind_all = sym (append_assoc a.out held last) ∙ ap (λ (t : List ℕ). t ++ last) (sym a.parts)
-
-  pub all_out : Adds middle (held ++ last) new → Adds old (text ++ last) new
-  all_out p = subst (λ (t : List ℕ). Adds old t new) behind_all (Adds-then old middle new a.out (held ++ last) a.written p)
-
-  pub front_out : AddsPrefix (held ++ last) middle new → AddsPrefix (text ++ last) old new
-  front_out p = subst (λ (t : List ℕ). AddsPrefix t old new) behind_all (prefix_then a.out (held ++ last) old middle new a.written p)
-
--- or with none
+-- a text was added where nothing was held back, and then all leaves, with a last text behind it or with none
 module _ (text held : List ℕ) (old middle new : Option (List ℕ)) (a : GoesOut text [] held old middle) where
-  pub all_left : Adds middle held new → Adds old text new
-  all_left p =
-      subst (λ (t : List ℕ). Adds old t new) (append-nil text)
-      (all_out text held [] old middle new a (subst (λ (t : List ℕ). Adds middle t new) (sym (append-nil held)) p))
+  pub all_out : (last : List ℕ) → Adds middle (held ++ last) new → Adds old (text ++ last) new
+  all_out last p =
+      subst (λ (t : List ℕ). Adds old t new) (sym (append_assoc a.out held last) ∙ ap (λ (t : List ℕ). t ++ last) (sym a.parts))
+      (Adds-then old middle new a.out (held ++ last) a.written p)
 
-  pub front_left : AddsPrefix held middle new → AddsPrefix text old new
-  front_left p =
-      subst (λ (t : List ℕ). AddsPrefix t old new) (append-nil text)
-      (front_out text held [] old middle new a (subst (λ (t : List ℕ). AddsPrefix t middle new) (sym (append-nil held)) p))
+  pub all_left : Adds middle held new → Adds old text new
+  all_left p = subst (λ (t : List ℕ). Adds old t new) (sym a.parts) (Adds-then old middle new a.out held a.written p)
 
 -- nothing is held back any more
 pub none_left : (text held : List ℕ) (old middle : Option (List ℕ)) → GoesOut text [] held old middle → held ≡ [] → Adds old text middle

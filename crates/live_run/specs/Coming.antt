@@ -8,8 +8,8 @@ use Rattle.input_reading.specs.declared.results.result_lines.ResultLine.{ResultL
 use Rattle.live_run.specs.Saying.{place_behind_said, line_says_within}
 use Rattle.live_run.specs.declared.line_stop.LineStop.{LineStop}
 use Rattle.live_run.specs.declared.place.Place.{Place}
-use Rattle.live_run.specs.declared.said.Said.{Said}
-use Rattle.live_run.specs.declared.said.Said.TheVariants as said
+use Rattle.live_run.specs.declared.line_meaning.Said.{Said}
+use Rattle.live_run.specs.declared.line_meaning.Said.TheVariants as said
 
 -- answers with their lines, and why there are no more, if that is so by a line that is refused or goes past the limit
 pub record Coming : Type 0 where
@@ -29,7 +29,8 @@ said_first at said.Nothing others = others
 said_first at (said.Answer given) others = result_first (record { line = at.line; answer = given }) others
 said_first at (said.Stop why) others = no_more (Some why)
 
--- what is to come of some logical lines, each of which is given by its physical lines
+-- what is to come of some logical lines, each of which is given by its physical lines. A line may have so many bytes without line ends; the first stands at
+-- this place; and so many of the bytes to come lie within the limit
 abbrev pub coming : Cluster → ℕ → Place → ℕ → List (List (List ℕ)) → Coming
 coming c longest at room [] = no_more None
 coming c longest at room (lines ∷ more) =

@@ -47,6 +47,7 @@ coming_to s left = in_course s.course (coming_of s.cluster s.lines left)
 abbrev pub told_by : SourceState → Option (List ℕ) → Option Coming
 told_by s left = option_map (coming_to s) left
 
+-- the answers alone
 abbrev pub answers_to_come : Coming → List Answer
 answers_to_come coming = map (λ (result : ResultLine). result.answer) coming.results
 

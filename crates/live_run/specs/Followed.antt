@@ -54,8 +54,8 @@ pub record LastLineSays (c : Cluster) (from : Lines) (lines : List (List (List �
 abbrev pub NoneOrLastSays : Cluster → Lines → List (List (List ℕ)) → Type 0
 NoneOrLastSays c from lines = (lines ≡ []) ⊎ LastLineSays c from lines
 
--- these logical lines were read and answered so, and the bytes that were taken for them are theirs and those that are held now. Each byte of theirs leaves
--- less room
+-- these logical lines were read and answered so, and the bytes that were held and taken are theirs and those that are held now. Each byte of theirs
+-- leaves less room
 pub record HasRead (c : Cluster) (old new : Lines) (before after : Option (List ℕ)) (lines : List (List (List ℕ))) (given : List ResultLine) (bytes : List ℕ) : Type 0 where
   pub taken : TakesBytes before bytes after
   pub parts : old.reading.held ++ bytes ≡ bytes_of lines ++ new.reading.held

@@ -1,7 +1,7 @@
 -- A source of answers that are read from lines has come from itself, and from what it came from on the way; and so has a writer of lines.
 use Rattle.std.proofs.Common.{◌≡◌, ◌≢◌, ℕ, Bool, true, false, Option, Some, None, List, [], ◌∷◌, ◌++◌, option_map, append-nil, append_assoc, refl, ap, sym, subst, ◌∙◌}
 use Rattle.std.proofs.lemmas.Grind.{flat_map-append}
-use Rattle.cluster_io.specs.Streams.{Adds, AddsPrefix}
+use Rattle.cluster_io.specs.Streams.{Adds}
 use Rattle.cluster_io.proofs.Pieces.{Adds-then}
 use Rattle.cluster_types.specs.declared.run.RunLine.{RunLine}
 use Rattle.cluster_types.specs.Texts.{run_line}
@@ -14,8 +14,8 @@ use Rattle.live_run.specs.Coming.{Coming}
 use Rattle.live_run.specs.Courses.{SourceState, has_course_ended, is_reading, coming_to}
 use Rattle.live_run.specs.Followed.{NoneOrLastSays, SourceFollows, HasAnswered, HasBroken, HasQuestionFailed, HasCounted, HasFollowed, HasRead, HasSaid, HasStopped, IsStoppedBy, RestsBehind, View, answers, by_line, by_source, last_line, results_first, stays}
 use Rattle.live_run.specs.Ends.{run_lines_text}
-use Rattle.live_run.specs.Writing.{GoesOut, HasFailedBehind, HasPut, HasWrittenLines, WriterView, with_last}
-use Rattle.live_run.specs.Inner.Fronts.{prefix_then}
+use Rattle.live_run.specs.Writing.{CutsShort, GoesOut, HasFailedBehind, HasPut, HasWrittenLines, WriterView, last_text}
+use Rattle.live_run.specs.Inner.Fronts.{adds_none, short_behind}
 use Rattle.live_run.specs.declared.course.Course.{Course}
 use Rattle.live_run.specs.declared.course.Course.TheVariants as course
 use Rattle.live_run.specs.Inner.ReadLaws.{ends_then, near_then, read_then, stopped_then, told_joined}
@@ -156,12 +156,7 @@ module _ (exact : Bool) where
   said_behind a b d next.Silent f s = (followed_then a b d f s.0, s.1)
   said_behind a b d next.Failed f s = failed_later a b d f.follows f.counts s
 
--- what a writer has written
-nothing_added : (text : Option (List ℕ)) → Adds text [] text
-nothing_added None = refl
-nothing_added (Some t) = ap Some (sym (append-nil t))
-
--- one text is added, and then another
+-- what a writer has written: one text is added, and then another
 module _ (first rest held held_then : List ℕ) (before middle : Option (List ℕ)) (a : GoesOut first held held_then before middle) where
   behind_first : held ++ (first ++ rest) ≡ a.out ++ (held_then ++ rest)
   behind_first =
@@ -174,8 +169,10 @@ module _ (first rest held held_then : List ℕ) (before middle : Option (List �
     written = Adds-then before middle after a.out b.out a.written b.written;
   }
 
-  pub fails_then : (after : Option (List ℕ)) → AddsPrefix (held_then ++ rest) middle after → AddsPrefix (held ++ (first ++ rest)) before after
-  fails_then after p = subst (λ (t : List ℕ). AddsPrefix t before after) (sym behind_first) (prefix_then a.out (held_then ++ rest) before middle after a.written p)
+  -- or the sink fails behind it
+  fails_then : (last : List ℕ) (after : Option (List ℕ)) → CutsShort (held_then ++ rest) last middle after → CutsShort (held ++ (first ++ rest)) last before after
+  fails_then last after c =
+      short_behind (first ++ rest) held (held_then ++ rest) last before middle after (record { out = a.out; parts = behind_first; written = a.written }) c
 
 put_then : (exact : Bool) (failed : Type 0) (f g h l m n : ℕ) → HasPut exact ⊥ f g l m → HasPut exact failed g h m n → HasPut exact failed f h l n
 put_then exact failed f g h l m n a b = record {
@@ -187,7 +184,7 @@ pub lines_itself : (exact : Bool) (v : WriterView) → HasWrittenLines exact v v
 lines_itself exact v = record {
   names_stay = refl;
   put = record { bears = Bears-none exact ⊥ v.faults (λ none. none); same_sink = refl };
-  text = record { out = []; parts = append-nil v.held; written = nothing_added v.written };
+  text = record { out = []; parts = append-nil v.held; written = adds_none v.written };
 }
 
 module _ (exact : Bool) (first middle last : WriterView) (lines more : List RunLine) (a : HasWrittenLines exact first middle lines) where
@@ -203,18 +200,13 @@ module _ (exact : Bool) (first middle last : WriterView) (lines more : List RunL
         (goes_then (run_lines_text first.names lines) (run_lines_text middle.names more) first.held middle.held first.written middle.written a.text last.held last.written b.text);
   }
 
-  failed_later_by : HasFailedBehind exact middle last more → HasFailedBehind exact first last (lines ++ more)
-  failed_later_by b = record {
+  -- wherever a writer stops, it does so behind what came before
+  pub lines_later : (at : Option RunLine) → HasFailedBehind exact middle last more at → HasFailedBehind exact first last (lines ++ more) at
+  lines_later at b = record {
     names_stay = b.names_stay ∙ a.names_stay;
     put = put_then exact (Unit {0}) first.faults middle.faults last.faults first.loan middle.loan last.loan a.put b.put;
-    text = subst (λ (t : List ℕ). AddsPrefix (first.held ++ t) first.written last.written) (sym text_joined)
-        (fails_then (run_lines_text first.names lines) (run_lines_text middle.names more) first.held middle.held first.written middle.written a.text last.written b.text);
+    text = subst (λ (t : List ℕ). CutsShort (first.held ++ t) (last_text first.names at) first.written last.written) (sym text_joined)
+        (subst (λ (c : Cluster). CutsShort (first.held ++ (run_lines_text first.names lines ++ run_lines_text middle.names more)) (last_text c at) first.written last.written) a.names_stay
+        (fails_then (run_lines_text first.names lines) (run_lines_text middle.names more) first.held middle.held first.written middle.written a.text
+        (last_text middle.names at) last.written b.text));
   }
-
--- wherever a writer stops, it does so behind what came before
-pub lines_later : (exact : Bool) (first middle last : WriterView) (lines more : List RunLine) (at : Option RunLine) → HasWrittenLines exact first middle lines
-    → HasFailedBehind exact middle last (with_last more at) → HasFailedBehind exact first last (with_last (lines ++ more) at)
-lines_later exact first middle last lines more None a b = failed_later_by exact first middle last lines more a b
-lines_later exact first middle last lines more (Some at) a b =
-    subst (λ (ls : List RunLine). HasFailedBehind exact first last ls) (sym (append_assoc lines more (at ∷ [])))
-    (failed_later_by exact first middle last lines (more ++ at ∷ []) a b)

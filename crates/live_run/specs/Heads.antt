@@ -12,15 +12,17 @@ use Rattle.crm_lex.specs.declared.fault.LexCause.{LexCause}
 use Rattle.crm_lex.specs.declared.fault.LexCause.TheVariants.{LineTooLong}
 use Rattle.faults.specs.declared.fault.Fault.{Fault}
 use Rattle.faults.specs.declared.fault.Fault.TheVariants.{At, NoMemory}
+use Rattle.input_reading.specs.declared.input.cause.InputCause.{InputCause}
+use Rattle.input_reading.specs.declared.input.cause.InputCause.TheVariants.{Words}
 use Rattle.live_run.specs.Followed.{bytes_of, count_lines}
 use Rattle.live_run.specs.declared.head.HeadStop.{HeadStop}
 use Rattle.live_run.specs.declared.head.HeadStop.TheVariants as stop
 
--- what a source gives as the head: its bytes, with the number of the line behind it and how many bytes lie within the limit there; the first line that
--- can't be cut into words, and why; or a line that goes past the limit
+-- what a source gives as the head: its bytes, with the number of the line behind it and how many of the bytes behind it lie within the limit; the first
+-- line that can't be cut into words, and why; or a line that goes past the limit
 pub data HeadVerdict : Type 0 where
   taken : (text : List ℕ) (next room : ℕ) → HeadVerdict
-  refused : (line : ℕ) (why : LexCause) → HeadVerdict
+  refused : (line : ℕ) (why : InputCause) → HeadVerdict
   too_large : HeadVerdict
 
 -- the line of these words begins the results
@@ -56,7 +58,7 @@ line_of_head longest room n lines = line_by_size (line_answer room longest lines
 abbrev pub verdict_by : LineOfHead → HeadVerdict → HeadVerdict → HeadVerdict
 verdict_by ends_head with_it behind = with_it
 verdict_by goes_on_behind with_it behind = behind
-verdict_by (has_no_words line why) with_it behind = refused line why
+verdict_by (has_no_words line why) with_it behind = refused line (Words why)
 verdict_by passes_limit with_it behind = too_large
 
 -- the head of a text and some logical lines behind it, line by line: up to the first behind which it doesn't go on

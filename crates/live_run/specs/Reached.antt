@@ -21,6 +21,7 @@ use Rattle.live_run.specs.declared.line_stop.LineStop.TheVariants as why
 use Rattle.input_reading.specs.declared.results.result_lines.ResultLine.{ResultLine}
 use Rattle.run_safety.specs.Followed.{EndsBetween, IsFront}
 use Rattle.live_run.specs.LineCauses.{line_refusal_text}
+use Rattle.live_run.specs.Writing.{CutsShort}
 use Rattle.live_run.specs.Ends.{AsksForMore, EndGets, CutRunGives, run_lines_text}
 use Rattle.live_run.specs.declared.live_end.LiveEnd.{LiveEnd}
 use Rattle.live_run.specs.declared.live_end.LiveEnd.TheVariants as end
@@ -49,6 +50,7 @@ pub record GivesNoAnswer (room longest : ℕ) (held : List ℕ) : Type 0 where
 
 -- of a run over these bytes, of which the source has some left now
 module _ (c : Cluster) (journal : Journal) (reading : Reading) (left : List ℕ) (after : Option (List ℕ)) where
+  -- what is to come of its result lines
   abbrev pub results : Coming
   results = results_behind c journal reading left
 
@@ -68,17 +70,19 @@ module _ (c : Cluster) (journal : Journal) (reading : Reading) (left : List ℕ)
     pub unstopped : asked.stop ≡ None
     pub none_left : after ≡ Some []
 
-  -- a call of the writer amid the run, behind these lines: it is told those of one step. The line that ends the transition may come right
-  -- behind them, and this call isn't told it. The run has taken these answers by then
+  -- a call of the writer amid the run, behind these lines: it is told the lines of one step, one by one, up to this one, and those behind it no more. Nor is it
+  -- told the line that ends the transition, which may come right behind the step. The run has taken these answers by then
   pub record CallInRun : Type 0 where
     pub printed : List RunLine
     pub told : List RunLine
+    pub at : RunLine
+    pub untold : List RunLine
     pub closing : List RunLine
     pub journal_now : List Event
     pub given : List ResultLine
     pub behind : List ResultLine
     pub split : results.results ≡ given ++ behind
-    pub run : IsStoppedRun c journal.promotions (is_none results.stop) journal.events (Some (answers_to_come results)) printed told closing journal_now
+    pub run : IsStoppedRun c journal.promotions (is_none results.stop) journal.events (Some (answers_to_come results)) printed (told ++ at ∷ untold) closing journal_now
         (Some (map (λ (r : ResultLine). r.answer) behind))
 
   -- the call that writes `unexpected LINE` of the answer behind these, which doesn't apply
@@ -96,8 +100,8 @@ module _ (c : Cluster) (journal : Journal) (reading : Reading) (left : List ℕ)
     pub stop : results.stop ≡ Some (why.Refused line cause)
     pub run : AsksForMore c journal results printed
 
-  -- the call that writes what is held back where the run asks for an answer, or stands between two transitions. The run has taken answers by then. The
-  -- line that is refused, if one is, was asked for too, or none behind these
+  -- the call that writes what is held back where the run asks for an answer, or stands between two transitions. These answers were taken by then, and no
+  -- line behind them was asked for; or all answers were, and the line behind them that is refused was asked for too, if there is one
   pub record CallAtRest : Type 0 where
     pub printed : List RunLine
     pub at : RunStanding
@@ -118,7 +122,7 @@ module _ (c : Cluster) (journal : Journal) (reading : Reading) (left : List ℕ)
 
   -- the lines that were told before it
   abbrev pub lines_before_call : WriterCall → List RunLine
-  lines_before_call (in_run call) = call.printed
+  lines_before_call (in_run call) = call.printed ++ call.told
   lines_before_call (at_rest call) = call.printed
   lines_before_call (of_unexpected call) = call.printed
   lines_before_call (of_refusal call) = call.printed
@@ -132,7 +136,7 @@ module _ (c : Cluster) (journal : Journal) (reading : Reading) (left : List ℕ)
 
   -- what it adds to these
   abbrev pub text_of_call : WriterCall → List ℕ
-  text_of_call (in_run call) = run_lines_text c call.told
+  text_of_call (in_run call) = run_line c call.at
   text_of_call (at_rest call) = []
   text_of_call (of_unexpected call) = run_line c (line.Unexpected call.result.line)
   text_of_call (of_refusal call) = line_refusal_text call.line call.cause
@@ -145,7 +149,7 @@ module _ (c : Cluster) (journal : Journal) (reading : Reading) (left : List ℕ)
       pub gets : EndGets c journal results how text
       pub added : Adds old text new
 
-    -- the run took the answers of these lines, each of them and no other, and asks for one more: its lines were written
+    -- the run took the answers of these lines, each of them and no other, and asks for one more. No action has ended silently. Its lines were written
     pub record IsRunOverLines (lines : List (List (List ℕ))) : Type 0 where
       pub given : List ResultLine
       pub said : said_by c (first_result_place c journal reading) lines ≡ record { results = given; stop = None }
@@ -158,8 +162,8 @@ module _ (c : Cluster) (journal : Journal) (reading : Reading) (left : List ℕ)
       pub none_silent : IsRunSoFar c journal.promotions false journal.events (Some (map (λ (r : ResultLine). r.answer) given)) printed journal_now (Some [])
       pub added : Adds old (run_lines_text c printed) new
 
-    -- the source failed, behind some bytes that it gave: of these and those that were held before some lines were taken whole, the others give no answer
-    -- yet, and the run went over these lines
+    -- the source failed, behind some bytes that it gave: of the bytes that were held, and these, some lines were taken whole. The others give no answer yet,
+    -- and the run went over these lines
     pub record IsBrokenOff : Type 0 where
       pub bytes : List ℕ
       pub taken : TakesBytes (Some left) bytes after
@@ -167,12 +171,12 @@ module _ (c : Cluster) (journal : Journal) (reading : Reading) (left : List ℕ)
       pub no_answer : GivesNoAnswer (reading.room - length (bytes_of whole.lines)) reading.longest whole.held
       pub ran : IsRunOverLines whole.lines
 
-    -- the sink failed in one call: a front was written of the lines before it and of what it adds to these. No line was asked for since. It is a front of the
-    -- text that is due
+    -- the sink failed in one call: a front was written of the lines before it and of what it adds to these. Of the lines before it at most 65,536 bytes are
+    -- missing. No line was asked for since. It is a front of the text that is due
     pub record IsCutOff : Type 0 where
       pub call : WriterCall
       pub read : AskedFor (asked_by_call call) ⊎ AskedForAll (asked_by_call call)
-      pub front : AddsPrefix (run_lines_text c (lines_before_call call) ++ text_of_call call) old new
+      pub cut : CutsShort (run_lines_text c (lines_before_call call)) (text_of_call call) old new
       pub begins : (how : LiveEnd) (whole : List ℕ) → EndGets c journal results how whole → AddsPrefix whole old new
 
     -- memory ran out between two transitions: the lines up to there were written, none or ones that end with `complete K`, `aborted K` or an answer that came

@@ -1,13 +1,23 @@
 -- What is written of some lines of a run, and what is held back (rule of this project).
-use Rattle.std.specs.Prelude.{◌≡◌, ℕ, Bool, Option, Some, None, Result, Ok, Err, List, [], ◌∷◌, ◌++◌}
+use Rattle.std.specs.Prelude.{◌≡◌, ℕ, ◌+◌, ◌≤◌, Bool, Option, Some, None, Result, Ok, Err, List, [], ◌++◌, length}
 use Rattle.cluster_io.specs.Streams.{Adds, AddsPrefix, Bears}
 use Rattle.cluster_io.specs.declared.sink.WriteFault.{WriteFault}
 use Rattle.cluster_types.specs.declared.cluster.Cluster.{Cluster}
 use Rattle.cluster_types.specs.declared.run.RunLine.{RunLine}
+use Rattle.cluster_types.specs.Texts.{run_line}
 use Rattle.graph_exec.specs.Telling.{StopsAmong}
 use Rattle.graph_exec.specs.declared.transition.watcher.Heard.{Heard}
 use Rattle.graph_exec.specs.declared.transition.watcher.Heard.TheVariants as heard
 use Rattle.live_run.specs.Ends.{run_lines_text}
+
+-- how many bytes are held back at most
+abbrev pub most_held : ℕ
+most_held = 65536
+
+-- the sink failed as a last text was added behind a text: a front of both was written, and of the text at most 65,536 bytes are missing
+pub record CutsShort (text last : List ℕ) (before after : Option (List ℕ)) : Type 0 where
+  pub front : AddsPrefix (text ++ last) before after
+  pub few_missing : length text ≤ front.count + most_held
 
 -- all of a text was written, or a front of it where the sink failed
 abbrev pub Puts : Result (Unit {0}) WriteFault → List ℕ → Option (List ℕ) → Option (List ℕ) → Type 0
@@ -29,16 +39,21 @@ pub record GoesOut (text held held_now : List ℕ) (before after : Option (List 
   pub parts : held ++ text ≡ out ++ held_now
   pub written : Adds before out after
 
--- so it was, or the sink failed: then a front was written of what was held back and the text
+-- so it was, or the sink failed
 abbrev pub PutsBehind : Result (Unit {0}) WriteFault → List ℕ → List ℕ → List ℕ → Option (List ℕ) → Option (List ℕ) → Type 0
 PutsBehind (Ok done) text held held_now before after = GoesOut text held held_now before after
-PutsBehind (Err fault) text held held_now before after = AddsPrefix (held ++ text) before after
+PutsBehind (Err fault) text held held_now before after = CutsShort held text before after
+
+-- what was held back and a text behind it were written, or the sink failed
+abbrev pub PutsLast : Result (Unit {0}) WriteFault → List ℕ → List ℕ → Option (List ℕ) → Option (List ℕ) → Type 0
+PutsLast (Ok done) text held before after = Adds before (held ++ text) after
+PutsLast (Err fault) text held before after = CutsShort held text before after
 
 module _ (c : Cluster) (held held_now : List ℕ) (before after : Option (List ℕ)) where
   -- these lines were added, or some of them, behind which the sink failed
   abbrev pub PutsLines : Result (Unit {0}) WriteFault → List RunLine → Type 0
   PutsLines (Ok done) lines = GoesOut (run_lines_text c lines) held held_now before after
-  PutsLines (Err fault) lines = StopsAmong (λ (front : List RunLine) (at : RunLine). AddsPrefix (held ++ run_lines_text c (front ++ at ∷ [])) before after) lines
+  PutsLines (Err fault) lines = StopsAmong (λ (front : List RunLine) (at : RunLine). CutsShort (held ++ run_lines_text c front) (run_line c at) before after) lines
 
 -- what lines that were written have left of a sink's count of faults, by whether the last of them failed, and of its loan
 pub record HasPut (exact : Bool) (failed : Type 0) (faults faults_now loan loan_now : ℕ) : Type 0 where
@@ -53,10 +68,10 @@ pub record WriterView : Type 0 where
   pub faults : ℕ
   pub loan : ℕ
 
--- some lines, and one behind them, if there is one
-abbrev pub with_last : List RunLine → Option RunLine → List RunLine
-with_last lines (Some at) = lines ++ at ∷ []
-with_last lines None = lines
+-- the text of a line, if there is one
+abbrev pub last_text : Cluster → Option RunLine → List ℕ
+last_text c (Some at) = run_line c at
+last_text c None = []
 
 module _ (exact : Bool) (old new : WriterView) (lines : List RunLine) where
   -- a writer has come on by some lines
@@ -65,8 +80,8 @@ module _ (exact : Bool) (old new : WriterView) (lines : List RunLine) where
     pub put : HasPut exact ⊥ old.faults new.faults old.loan new.loan
     pub text : GoesOut (run_lines_text old.names lines) old.held new.held old.written new.written
 
-  -- the sink has failed behind some lines: a front was written of what was held back and of these lines
-  pub record HasFailedBehind : Type 0 where
+  -- the sink has failed behind some lines, at the next or as all that was held back left
+  pub record HasFailedBehind (at : Option RunLine) : Type 0 where
     pub names_stay : new.names ≡ old.names
     pub put : HasPut exact (Unit {0}) old.faults new.faults old.loan new.loan
-    pub text : AddsPrefix (old.held ++ run_lines_text old.names lines) old.written new.written
+    pub text : CutsShort (old.held ++ run_lines_text old.names lines) (last_text old.names at) old.written new.written

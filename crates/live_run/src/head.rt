@@ -13,6 +13,7 @@ ghost use Rattle.live_run.specs.Inner.HeadSteps.{BringsHead, StillAmid, WhileWel
 
 use cluster_io::{LineReader, LineStep, Source};
 use crm_lex::{LexCause, LexFault, NoMemory, WordBuf, lex_one, line_count};
+use input_reading::InputCause;
 use std::alloc::Global;
 
 /// Why the head of an input isn't read.
@@ -22,8 +23,9 @@ pub enum HeadStop {
     ReadFault,
     /// A line goes past the limit of bytes.
     TooLarge,
-    /// The first line that can't be cut into words, and why.
-    Refused { line: u32, cause: LexCause },
+    /// A line is refused. `read_head` says so of the first that can't be cut into words, and who reads what the head says, of
+    /// the first at fault.
+    Refused { line: u32, cause: InputCause },
     NoMemory,
 }
 
@@ -54,7 +56,10 @@ fn refused(fault: LexFault) -> HeadStop
     ensures { result ≡ stop_for fault }
 {
     match fault {
-        LexFault::At { line, cause } => HeadStop::Refused { line, cause },
+        LexFault::At { line, cause } => HeadStop::Refused {
+            line,
+            cause: InputCause::Words(cause),
+        },
         LexFault::NoMemory => unreachable!(),
     }
 }
@@ -143,7 +148,7 @@ fn step<S: Source>(
         LineStep::End => Some(Ok(())),
         LineStep::TooLong => Some(Err(HeadStop::Refused {
             line: head.next as u32,
-            cause: LexCause::LineTooLong,
+            cause: InputCause::Words(LexCause::LineTooLong),
         })),
         LineStep::TooLarge => Some(Err(HeadStop::TooLarge)),
         LineStep::Failed => Some(Err(HeadStop::ReadFault)),

@@ -1,6 +1,7 @@
 //! Text that is held back.
 
 ghost use Rattle.std.specs.Prelude.{◌≡◌, ◌+◌, ◌≤◌, ◌++◌, [], true, length, IfOk};
+ghost use Rattle.live_run.specs.Writing.{most_held};
 
 use crm_lex::NoMemory;
 use std::alloc::Global;
@@ -40,14 +41,14 @@ impl HeldText {
 
     /// Whether so many bytes more can be held back.
     pub(crate) fn has_room(&self, more: usize) -> bool
-        ensures { result ≡ true → length self.now + more ≤ 65536 }
+        ensures { result ≡ true → length self.now + more ≤ most_held }
     {
         more <= ROOM - self.len
     }
 
     /// Holds some bytes back behind the others.
     pub(crate) fn add(&mut self, bytes: &[u8])
-        requires { length self.old + length bytes.now ≤ 65536 }
+        requires { length self.old + length bytes.now ≤ most_held }
         ensures { self.new ≡ self.old ++ bytes.now }
     {
         let start = self.len;
@@ -58,7 +59,8 @@ impl HeldText {
 
     /// The bytes that are held back.
     pub(crate) fn as_slice(&self) -> &[u8]
-        ensures { result.now ≡ self.now }
+        ensures bytes { result.now ≡ self.now }
+        ensures few { length self.now ≤ most_held }
     {
         &self.bytes[..self.len]
     }

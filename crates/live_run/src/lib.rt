@@ -10,12 +10,12 @@ mod line_stop;
 
 // What one line says.
 mod at_hand;
+mod line_meaning;
 mod line_saying;
 mod place;
-mod said;
 
 // One line after another.
-mod came;
+mod line_result;
 mod result_reader;
 
 // A source of answers.

@@ -11,8 +11,8 @@ ghost use Rattle.live_run.specs.Heads.{CanGoOn};
 ghost use Rattle.live_run.specs.ResultReaders.{reader_lines};
 
 use crate::at_hand::begins_result;
-use crate::came::Came;
 use crate::course::Course;
+use crate::line_result::Came;
 use crate::line_stop::LineStop;
 use crate::place::Place;
 use crate::result_reader::ResultReader;

@@ -7,9 +7,9 @@ ghost use Rattle.faults.specs.declared.fault.Fault.TheVariants as found;
 ghost use Rattle.live_run.specs.Saying.{SaidFits, answer_says, line_says, refused_for, words_say};
 ghost use Rattle.live_run.specs.declared.line_stop.LineCause.TheVariants as of_line;
 
+use crate::line_meaning::Said;
 use crate::line_stop::{LineCause, LineStop};
 use crate::place::Place;
-use crate::said::Said;
 use cluster_types::Answer;
 use crm_lex::{LexFault, WordBuf, lex_one};
 use input_reading::{ResultFault, read_result};

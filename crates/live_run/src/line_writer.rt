@@ -1,12 +1,12 @@
 //! A watcher that writes the lines of a run.
 
-ghost use Rattle.std.specs.Prelude.{◌≡◌, ◌++◌, [], IsErr};
+ghost use Rattle.std.specs.Prelude.{◌≡◌, ◌≤◌, [], length, IsErr};
 ghost use Rattle.cluster_io.specs.Streams.{Bears};
 ghost use Rattle.cluster_types.specs.declared.run.RunLine.TheVariants as told;
 ghost use Rattle.cluster_types.specs.Texts as texts;
 ghost use Rattle.cluster_types.specs.Valid.{IsValid, KeepsLimits};
 ghost use Rattle.live_run.specs.LineCauses.{line_refusal_text};
-ghost use Rattle.live_run.specs.Writing.{IsSameSink, Puts, heard_of};
+ghost use Rattle.live_run.specs.Writing.{IsSameSink, Puts, PutsLast, heard_of, most_held};
 ghost use Rattle.trace_text.specs.RunLines.{HasShortNames};
 
 use crate::held_text::HeldText;
@@ -69,6 +69,7 @@ impl<'c, 's, W: Sink> LineWriter<'c, 's, W> {
     /// All that is held back leaves: the run has no more lines.
     pub fn finish(&mut self) -> Result<(), WriteFault>
         ensures text { Puts result (writer_held self.old) (W.written (sink_of self.old)) (W.written (sink_of self.new)) }
+        ensures few { length (writer_held self.old) ≤ most_held }
         ensures held { writer_held self.new ≡ [] }
         ensures bears { Bears W.counts_only_failures (IsErr result) (W.faults (sink_of self.old)) (W.faults (sink_of self.new)) }
         ensures same_sink { IsSameSink (writer_loan self.old) (writer_loan self.new) }
@@ -79,7 +80,7 @@ impl<'c, 's, W: Sink> LineWriter<'c, 's, W> {
     /// Writes `unexpected LINE` behind all that is held back: the last line of a run that is cut by an answer at this line
     /// which doesn't apply.
     pub fn unexpected(&mut self, line: u32) -> Result<(), WriteFault>
-        ensures text { Puts result (writer_held self.old ++ texts.run_line (writer_cluster self.old) (told.Unexpected line))
+        ensures text { PutsLast result (texts.run_line (writer_cluster self.old) (told.Unexpected line)) (writer_held self.old)
             (W.written (sink_of self.old)) (W.written (sink_of self.new)) }
         ensures held { writer_held self.new ≡ [] }
         ensures bears { Bears W.counts_only_failures (IsErr result) (W.faults (sink_of self.old)) (W.faults (sink_of self.new)) }
@@ -96,7 +97,7 @@ impl<'c, 's, W: Sink> LineWriter<'c, 's, W> {
 
     /// Writes `refused LINE CAUSE` behind all that is held back: the last line of a run that asks for a line which isn't read.
     pub fn refused(&mut self, line: u32, cause: LineCause) -> Result<(), WriteFault>
-        ensures text { Puts result (writer_held self.old ++ line_refusal_text line cause) (W.written (sink_of self.old)) (W.written (sink_of self.new)) }
+        ensures text { PutsLast result (line_refusal_text line cause) (writer_held self.old) (W.written (sink_of self.old)) (W.written (sink_of self.new)) }
         ensures held { writer_held self.new ≡ [] }
         ensures bears { Bears W.counts_only_failures (IsErr result) (W.faults (sink_of self.old)) (W.faults (sink_of self.new)) }
         ensures same_sink { IsSameSink (writer_loan self.old) (writer_loan self.new) }

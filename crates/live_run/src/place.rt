@@ -3,7 +3,7 @@
 ghost use Rattle.std.specs.Prelude.{◌≡◌, ◌+◌, ◌<◌, ◌≤◌, ◌^◌};
 ghost use Rattle.live_run.specs.Saying.{SaidFits, place_behind_said};
 
-use crate::said::Said;
+use crate::line_meaning::Said;
 
 /// The place of a result line.
 #[derive(Clone, Copy)]

@@ -10,11 +10,11 @@ ghost use Rattle.live_run.specs.Inner.ComingSteps.{Brings, answers_in, reads_on,
 ghost use Rattle.live_run.specs.Inner.ReadSteps.{ReadUntil};
 ghost use Rattle.live_run.specs.Saying.{SaidFits, line_says, place_behind_said};
 
-use crate::came::Came;
+use crate::line_meaning::Said;
+use crate::line_result::Came;
 use crate::line_saying::line_says;
 use crate::line_stop::{LineCause, LineStop};
 use crate::place::Place;
-use crate::said::Said;
 use cluster_io::{LineReader, LineStep, Source};
 use crm_lex::{LexCause, WordBuf, line_count};
 use input_reading::ResultLine;

@@ -1,23 +1,24 @@
 //! The lines of a run, which are held back and leave together.
 
-ghost use Rattle.std.specs.Prelude.{◌≡◌, ◌≤◌, ◌++◌, [], length, IsErr};
+ghost use Rattle.std.specs.Prelude.{◌≡◌, ◌≤◌, [], length, IsErr};
 ghost use Rattle.cluster_io.specs.Streams.{Bears};
 ghost use Rattle.cluster_types.specs.Texts as texts;
 ghost use Rattle.cluster_types.specs.Valid.{KeepsLimits};
 ghost use Rattle.graph_exec.specs.Telling.{ReasonsHaveNames, plan_lines};
 ghost use Rattle.live_run.specs.LineCauses.{line_refusal_text};
-ghost use Rattle.live_run.specs.Writing.{Puts, PutsBehind, PutsLines};
+ghost use Rattle.live_run.specs.Writing.{Puts, PutsBehind, PutsLast, PutsLines, most_held};
 ghost use Rattle.trace_text.specs.RunLines.{HasName, HasShortNames, lent_line};
 
 use crate::held_text::HeldText;
 use crate::line_stop::LineCause;
 use cluster_io::{Sink, WriteFault, write_text};
 use cluster_types::{Cluster, Placed};
-use trace_text::{LineBuf, LinePlace, RunLineRef, next_target_line, write_line, write_refusal};
+use trace_text::{LineBuf, RunLineRef, TargetLines, write_line, write_refusal};
 
 /// All that is held back leaves, by one `write_text`.
 pub(crate) fn flush<W: Sink>(sink: &mut W, held: &mut HeldText) -> Result<(), WriteFault>
     ensures text { Puts result held.old (W.written sink.old) (W.written sink.new) }
+    ensures few { length held.old ≤ most_held }
     ensures held { held.new ≡ [] }
     ensures bears { Bears W.counts_only_failures (IsErr result) (W.faults sink.old) (W.faults sink.new) }
 {
@@ -86,8 +87,8 @@ pub(crate) fn put_plan<W: Sink>(
         buf,
         &RunLineRef::Transition(transition),
     )?;
-    let mut place = LinePlace::FIRST;
-    while let Some(line) = next_target_line(cluster, placed, &mut place) {
+    let mut lines = TargetLines::new(cluster, placed);
+    while let Some(line) = lines.next() {
         put(cluster, sink, held, buf, &line)?;
     }
     Ok(())
@@ -103,7 +104,7 @@ pub(crate) fn put_last<W: Sink>(
 ) -> Result<(), WriteFault>
     requires names { HasShortNames cluster.now }
     requires reason { HasName line.now }
-    ensures text { Puts result (held.old ++ texts.run_line cluster.now (lent_line line.now)) (W.written sink.old) (W.written sink.new) }
+    ensures text { PutsLast result (texts.run_line cluster.now (lent_line line.now)) held.old (W.written sink.old) (W.written sink.new) }
     ensures held { held.new ≡ [] }
     ensures bears { Bears W.counts_only_failures (IsErr result) (W.faults sink.old) (W.faults sink.new) }
 {
@@ -119,7 +120,7 @@ pub(crate) fn put_refusal<W: Sink>(
     line: u32,
     cause: LineCause,
 ) -> Result<(), WriteFault>
-    ensures text { Puts result (held.old ++ line_refusal_text line cause) (W.written sink.old) (W.written sink.new) }
+    ensures text { PutsLast result (line_refusal_text line cause) held.old (W.written sink.old) (W.written sink.new) }
     ensures held { held.new ≡ [] }
     ensures bears { Bears W.counts_only_failures (IsErr result) (W.faults sink.old) (W.faults sink.new) }
 {

@@ -1,6 +1,6 @@
 //! A run over result lines as they come.
 
-ghost use Rattle.std.specs.Prelude.{◌≡◌, ◌≢◌, ◌↔◌, ◌<◌, ◌^◌, ◌++◌, [], Some, IfSome};
+ghost use Rattle.std.specs.Prelude.{◌≡◌, ◌≢◌, ◌↔◌, ◌<◌, ◌^◌, [], Some, IfSome};
 ghost use Rattle.cluster_io.specs.Streams.{Bears, Rose};
 ghost use Rattle.cluster_types.specs.declared.run.RunLine.TheVariants as told;
 ghost use Rattle.cluster_types.specs.Journals.{moment_of};
@@ -56,7 +56,7 @@ fn end_of_cut<S: Source, W: Sink>(
     outcomes: &LineOutcomes<'_, '_, S>,
     writer: &mut LineWriter<'_, '_, W>,
 ) -> LiveEnd
-    ensures text { EndsCut (writer_held writer.old ++ run_line (writer_cluster writer.old) (told.Unexpected (standing_of outcomes.now).line)) result
+    ensures text { EndsCut (writer_held writer.old) (run_line (writer_cluster writer.old) (told.Unexpected (standing_of outcomes.now).line)) result
         (W.written (sink_of writer.old)) (W.written (sink_of writer.new)) }
     ensures bears { Bears W.counts_only_failures (result ≡ LiveEnd.WriteFault) (W.faults (sink_of writer.old)) (W.faults (sink_of writer.new)) }
     ensures same_sink { IsSameSink (writer_loan writer.old) (writer_loan writer.new) }

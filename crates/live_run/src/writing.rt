@@ -10,14 +10,14 @@ use trace_text::RunLineRef;
 impl<'c, 's, W: Sink> Watcher for LineWriter<'c, 's, W> {
     ghost use Rattle.std.specs.Prelude.{◌≡◌, []};
     ghost use Rattle.live_run.specs.LineWriters.{writer_held, writer_cluster, sink_of, writer_view};
-    ghost use Rattle.live_run.specs.Writing.{HasFailedBehind, HasWrittenLines, with_last};
+    ghost use Rattle.live_run.specs.Writing.{HasFailedBehind, HasWrittenLines};
     ghost use Rattle.live_run.specs.FollowedLaws.{lines_itself, lines_later, lines_then};
 
     ghost is_of = { λ w c. writer_cluster w ≡ c };
 
     ghost follows = { λ old new lines. HasWrittenLines W.counts_only_failures (writer_view W.written W.faults old) (writer_view W.written W.faults new) lines };
 
-    ghost stopped = { λ old new lines at. HasFailedBehind W.counts_only_failures (writer_view W.written W.faults old) (writer_view W.written W.faults new) (with_last lines at) };
+    ghost stopped = { λ old new lines at. HasFailedBehind W.counts_only_failures (writer_view W.written W.faults old) (writer_view W.written W.faults new) lines at };
 
     ghost quiet = { λ w. writer_held w ≡ [] };
 
@@ -74,6 +74,6 @@ impl<'c, 's, W: Sink> Watcher for LineWriter<'c, 's, W> {
     ghost from_before = { λ first middle last. lines_then W.counts_only_failures (writer_view W.written W.faults first)
         (writer_view W.written W.faults middle) (writer_view W.written W.faults last) };
 
-    ghost stopped_later = { λ first middle last. lines_later W.counts_only_failures (writer_view W.written W.faults first)
-        (writer_view W.written W.faults middle) (writer_view W.written W.faults last) };
+    ghost stopped_later = { λ first middle last lines more at wrote failed. lines_later W.counts_only_failures (writer_view W.written W.faults first)
+        (writer_view W.written W.faults middle) (writer_view W.written W.faults last) lines more wrote at failed };
 }

@@ -10,6 +10,7 @@ pub mod FromValid
 pub mod LoopTests
 pub mod ChainWays
 pub mod OneRanking
+pub mod RankTables
 pub mod RankLists
 pub mod RankChains
 pub mod ComputedChains

@@ -11,8 +11,10 @@ use Rattle.loops.specs.Inner.Edges.{step_edges}
 use Rattle.loops.specs.FirstLoops.{AllOrder}
 use Rattle.loops.proofs.LinkLoops.{steps_within}
 use Rattle.loops.proofs.StepPlaces.{spot_of}
-use Rattle.loops.specs.Ranks.{AreRanks, rank_in}
+use Rattle.loops.specs.Inner.RankList.{all_ranked, rank_in}
+use Rattle.loops.specs.Ranks.{AreRanks}
 use Rattle.loops.proofs.ChainWays.{rank_is}
+use Rattle.loops.proofs.RankTables.{rank_of_all}
 
 module _ (c : Cluster) (ordered : AllOrder c) (ranks : List ℕ) (size : length ranks ≡ 4 * length c.leaves)
     (each : (x : ℕ) → x < 4 * length c.leaves → slice_index_or ranks x 0 ≡ longest (4 * length c.leaves) (step_edges c) x) where
@@ -34,5 +36,5 @@ module _ (c : Cluster) (ordered : AllOrder c) (ranks : List ℕ) (size : length 
       sym (longest_past (4 * length c.leaves) (step_edges c) (steps_within c ordered) (4 * length c.leaves) (4 * (length c.leaves + r))
       (omega arith))
 
-  pub are_ranks : AreRanks c ranks
-  are_ranks s = at_op s.what s.leaf ∙ sym (rank_is c ordered s)
+  pub are_ranks : AreRanks c (all_ranked ranks)
+  are_ranks s = rank_of_all ranks s.what s.leaf ∙ at_op s.what s.leaf ∙ sym (rank_is c ordered s)

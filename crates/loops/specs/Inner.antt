@@ -1,3 +1,4 @@
 -- What no public clause rests on: what the code of this crate keeps and counts on the way, for its proofs alone.
 pub mod Edges
 pub mod Phases
+pub mod RankList

@@ -3,7 +3,7 @@
 // What a decision reads beside the table.
 pub mod caps;
 pub mod cells;
-pub mod known;
+pub mod inputs;
 pub mod permitting;
 
 // Which nodes it chooses.

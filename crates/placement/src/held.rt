@@ -5,6 +5,6 @@ pub mod dependencies;
 
 // The targets that are left.
 pub mod final_targets;
-pub mod left;
 pub mod passes;
 pub mod spreading;
+pub mod targets_left;

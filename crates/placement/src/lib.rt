@@ -33,7 +33,7 @@ mod placing;
 pub use choice::cells::is_kept;
 pub use choice::chosen_nodes::{ChosenNodes, chosen_nodes};
 pub use choice::deciding::{Choices, decide_all, target_by};
-pub use choice::known::Known;
+pub use choice::inputs::Known;
 pub use choice::loaded_table::LoadedTable;
 pub use choice::permitting::{is_placed, may_stay};
 pub use colocations::preferences::{counts, preference};

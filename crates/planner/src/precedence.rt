@@ -8,7 +8,7 @@ pub mod sides;
 
 // Which leaves are sent, where the actions of each leaf stand, and what all rules read of them.
 pub mod index;
-pub mod known;
+pub mod inputs;
 pub mod migrating;
 
 // The edges of each rule.

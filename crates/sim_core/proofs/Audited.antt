@@ -30,7 +30,7 @@ behind_at [] ys y = refl
 behind_at (x ∷ xs) ys y = behind_at xs ys y
 
 -- a source of the answers among some lines has those of what the lines say
-pub answers_said : (script : ScriptOf) (answers : List Answer) (slice lines : List RunTextLine) → script ≡ record { left = answers; taken = 0 }
+pub answers_said : (script : ScriptOf) (answers : List Answer) (slice lines : List RunTextLine) → script ≡ record { left = answers; taken = 0; asked = 0 }
     → answers ≡ flat_map (λ (l : RunTextLine). answer_in l.what) slice → slice ≡ lines → script.left ≡ answers_of_lines (said lines)
 answers_said script answers slice lines made among same =
     ap (λ (s : ScriptOf). s.left) made ∙ among ∙ ap (λ (ls : List RunTextLine). flat_map (λ (l : RunTextLine). answer_in l.what) ls) same

@@ -11,12 +11,11 @@ use Rattle.live_run.specs.Followed.{bytes_of}
 use Rattle.live_run.specs.Heads as heads
 use Rattle.live_run.specs.Heads.{CanGoOn, IsStopOf, KeepsBytes, head_behind, progress, taken}
 use Rattle.live_run.specs.declared.head.HeadStop.{HeadStop}
-use Rattle.live_run.specs.declared.head.HeadStop.TheVariants as why
-use Rattle.sim_core.specs.declared.beginning.HeadEnd.TheVariants as stop
+use Rattle.live_run.specs.declared.head.HeadStop.TheVariants as stop
 use Rattle.input_reading.specs.declared.input.cause.InputCause.{InputCause}
 use Rattle.input_reading.specs.declared.input.reading.Head.{Head}
 use Rattle.sim_core.specs.Live.{IsAmidHead}
-use Rattle.sim_core.specs.Inner.LiveSteps.{IsBehind, StopsBy, head_end_of, fresh}
+use Rattle.sim_core.specs.Inner.LiveSteps.{IsBehind, StopsBy, fresh}
 use Rattle.input_reading.specs.Reading.{longest_line, most_bytes, start_of}
 use Rattle.sim_core.specs.Replay.{head_in, lacks_words, says_nothing}
 
@@ -88,12 +87,12 @@ amid old new input (Some unread) e a = record {
         omega (arith, text, left, first)
 
 pub stops : (old new : Reading) (before after : Option (List ℕ)) (found : HeadStop) → old ≡ fresh → IfSome before (λ left. IsStopOf (head_behind [] old left) found)
-    → (found ≡ why.ReadFault → heads.IsAmid old new before after) → IfSome before (λ input. StopsBy input after (head_end_of found))
+    → (found ≡ stop.ReadFault → heads.IsAmid old new before after) → IfSome before (λ input. StopsBy input after found)
 stops old new None after found e told broken = tt
-stops old new (Some input) after (why.Refused line cause) e told broken = lacks_words line cause (same_head old input e ∙ told)
-stops old new (Some input) after why.TooLarge e told broken = same_head old input e ∙ told
-stops old new (Some input) after why.ReadFault e told broken = amid old new input after e (broken refl)
-stops old new (Some input) after why.NoMemory e told broken = tt
+stops old new (Some input) after (stop.Refused line cause) e told broken = lacks_words line cause (same_head old input e ∙ told)
+stops old new (Some input) after stop.TooLarge e told broken = same_head old input e ∙ told
+stops old new (Some input) after stop.ReadFault e told broken = amid old new input after e (broken refl)
+stops old new (Some input) after stop.NoMemory e told broken = tt
 
 -- the same, by what reading it gave
 pub faulty_read : (old new : Reading) (text : List ℕ) (next : ℕ) (before after : Option (List ℕ)) (found : Fault InputCause) (line : ℕ) (cause : InputCause)

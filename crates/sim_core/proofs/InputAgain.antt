@@ -271,7 +271,7 @@ module _ (text : List ℕ) (whole : Input) (r : ReadsInput text whole) (fits : l
     where
       by : (verdict : heads.HeadVerdict) → head_in text ≡ verdict → SaysHead [] most_bytes 1 (raw_lines text) verdict → ComesLineByLine text whole
       by (heads.taken bytes next room) is says = line_by_line bytes next room is
-      by (heads.refused line why) is fault = absurd (let f : None ≡ Some (At line why) = ap first_lex_fault (sym clean) ∙ fault in let no : ⊥ = cc in no)
+      by (heads.refused line why) is fault = absurd (let f : None ≡ Some (At line fault.lack) = ap first_lex_fault (sym clean) ∙ fault.first in let no : ⊥ = cc in no)
       by heads.too_large is over = let bytes_size = ap (λ (bs : List ℕ). length bs) (text_bytes text) in absurd (omega (arith, over, bytes_size, fits))
 
 -- and the other way round

@@ -9,14 +9,14 @@ use Rattle.cluster_types.specs.declared.cluster.Cluster.{Cluster}
 use Rattle.cluster_types.specs.declared.journal.Journal.{Journal}
 use Rattle.live_run.specs.Coming.{Coming}
 use Rattle.live_run.specs.Heads as heads
+use Rattle.live_run.specs.declared.head.HeadStop.{HeadStop}
+use Rattle.live_run.specs.declared.head.HeadStop.TheVariants as stop
 use Rattle.live_run.specs.declared.live_end.LiveEnd.{LiveEnd}
 use Rattle.live_run.specs.declared.live_end.LiveEnd.TheVariants as end
 use Rattle.live_run.specs.Ends.{EndGets}
 use Rattle.live_run.specs.Reached as run
 use Rattle.live_run.specs.Reached.{Reaches, results_behind}
-use Rattle.live_run.proofs.Written.{adds_none}
-use Rattle.sim_core.specs.declared.beginning.HeadEnd.{HeadEnd}
-use Rattle.sim_core.specs.declared.beginning.HeadEnd.TheVariants as stop
+use Rattle.live_run.specs.Inner.Fronts.{adds_none}
 use Rattle.input_reading.specs.declared.input.cause.InputCause.{InputCause}
 use Rattle.input_reading.specs.declared.input.reading.Head.{Head}
 use Rattle.sim_core.specs.declared.status.Status.{Status}
@@ -146,28 +146,9 @@ run_may end.ReadFault = refl
 run_may end.WriteFault = tt
 run_may end.NoMemory = refl
 
--- the status is that of a fault where the end is
-pub read_end : (how : LiveEnd) → status_of how ≡ ReadFault → how ≡ end.ReadFault
-read_end end.ReadFault e = refl
-read_end end.Done e = absurd cc
-read_end end.Unexpected e = absurd cc
-read_end end.Refused e = absurd cc
-read_end end.TooLarge e = absurd cc
-read_end end.WriteFault e = absurd cc
-read_end end.NoMemory e = absurd cc
-
-pub write_end : (how : LiveEnd) → status_of how ≡ WriteFault → how ≡ end.WriteFault
-write_end end.WriteFault e = refl
-write_end end.Done e = absurd cc
-write_end end.Unexpected e = absurd cc
-write_end end.Refused e = absurd cc
-write_end end.TooLarge e = absurd cc
-write_end end.ReadFault e = absurd cc
-write_end end.NoMemory e = absurd cc
-
 -- what is said of the source as it is lent on: that of the reader, of the answers and at the end
 module _ {S : Type 0} (left : S → Option (List ℕ)) where
-  pub stop_told : (src over begun final : S) (before after : Option (List ℕ)) (how : HeadEnd) (status : Status) → over ≡ src → final ≡ begun
+  pub stop_told : (src over begun final : S) (before after : Option (List ℕ)) (how : HeadStop) (status : Status) → over ≡ src → final ≡ begun
       → IfSome (left over) (λ input. StopsBy input (left begun) how)
       → ((input : List ℕ) (rest : Option (List ℕ)) → StopsBy input rest how → SaysLive input rest before after status)
       → IfSome (left src) (λ input. SaysLive input (left final) before after status)

@@ -1,6 +1,6 @@
 -- The parts of the promise of the word `replay`, joined.
-use Rattle.std.proofs.Common.{◌≡◌, inl, inr, ℕ, IfSome, Option, Some, List, [], ◌++◌, length, take, is_none, append-nil, refl, sym, subst, arith}
-use Rattle.std.proofs.Math.Seq.{take-length}
+use Rattle.std.proofs.Common.{◌≡◌, inl, inr, ℕ, IfSome, Option, Some, List, [], ◌++◌, take, is_none, append-nil, append_assoc, refl, ap, sym, ◌∙◌, subst}
+use Rattle.std.proofs.lemmas.Grind.{flat_map-append}
 use Rattle.std.proofs.lemmas.Option.{IfSome_then}
 use Rattle.cluster_io.specs.Readings.{Reading}
 use Rattle.cluster_io.specs.Streams.{Adds, AddsPrefix}
@@ -10,6 +10,7 @@ use Rattle.cluster_types.specs.declared.journal.Event.{Event}
 use Rattle.cluster_types.specs.declared.journal.Promotion.{Promotion}
 use Rattle.cluster_types.specs.declared.run.RunLine.{RunLine}
 use Rattle.cluster_types.specs.Runs.{RunStanding, due, Runs}
+use Rattle.cluster_types.specs.Texts.{run_line}
 use Rattle.cluster_types.specs.Valid.{IsValid}
 use Rattle.crm_lex.specs.RawLines.{raw_lines}
 use Rattle.input_reading.proofs.ValidHead.{cluster_valid, journal_at_rest}
@@ -17,8 +18,7 @@ use Rattle.input_reading.specs.declared.input.reading.Head.{Head}
 use Rattle.input_reading.specs.Causes.{refusal_text}
 use Rattle.live_run.proofs.Dues.{begins_due, one_end}
 use Rattle.live_run.proofs.NoFault.{coming_no_fault}
-use Rattle.live_run.proofs.Written.{adds_none}
-use Rattle.live_run.specs.Inner.Fronts.{prefix_first}
+use Rattle.live_run.specs.Inner.Fronts.{front_prefix, whole_prefix}
 use Rattle.live_run.specs.Coming.{Coming}
 use Rattle.live_run.specs.Courses.{answers_to_come}
 use Rattle.live_run.specs.declared.live_end.LiveEnd.{LiveEnd}
@@ -29,7 +29,6 @@ use Rattle.plan_laws.proofs.LawfulTable.{lawful}
 use Rattle.plan_laws.proofs.OnePlan.{one_list, one_placed}
 use Rattle.planner.proofs.SomePlan.{actions, goals, is_plan}
 use Rattle.run_safety.proofs.SafeRuns.{safe_run}
-use Rattle.run_safety.specs.Followed.{IsFront}
 use Rattle.written_runs.proofs.SafeLines.{safe_lines}
 use Rattle.sim_core.specs.declared.status.Status.{Status}
 use Rattle.sim_core.specs.declared.status.Status.TheVariants.{Done, NoMemory, Usage, ReadFault, WriteFault, Refused, Unexpected, TooLarge, NotLawful}
@@ -78,13 +77,6 @@ module _ (input bytes : List ℕ) (head : Head) (next room : ℕ) (begun : IsBeg
     one = λ other also is. one_end head.cluster head.journal coming how other text also gets is;
     safe = safe_all_the_way coming;
   }
-
--- a text that is written so far is a front of what is due
-front_added : (xs text : List ℕ) (before after : Option (List ℕ)) → IsFront xs text → Adds before xs after → AddsPrefix text before after
-front_added xs text before after front added =
-    subst (λ (t : List ℕ). AddsPrefix t before after) (sym front.joined)
-    (prefix_first xs front.more before after
-    (record { count = length xs; within = omega arith; added = subst (λ (t : List ℕ). Adds before t after) (sym (take-length xs)) added }))
 
 no_more : (xs : List ℕ) (before after : Option (List ℕ)) → Adds before xs after → Adds before (xs ++ []) after
 no_more xs before after added = subst (λ (t : List ℕ). Adds before t after) (sym (append-nil xs)) added
@@ -150,8 +142,9 @@ module _ (input : List ℕ) where
         so_far = b.ran.run.steps;
         added = no_more (run_lines_text head.cluster b.ran.printed) before after b.ran.added;
         ends = ends_now;
-        begins = λ how text gets. front_added (run_lines_text head.cluster b.ran.printed) text before after
-            (begins_due head.cluster head.journal all b.ran.run.last _ b.ran.printed how text b.ran.run.steps gets) b.ran.added;
+        begins = λ how text gets. front_prefix (run_lines_text head.cluster b.ran.printed) text before after
+            (begins_due head.cluster head.journal all b.ran.run.last _ b.ran.printed how text b.ran.run.steps gets)
+            (whole_prefix (run_lines_text head.cluster b.ran.printed) before after b.ran.added);
         safe = safe_now;
       }
 
@@ -167,37 +160,59 @@ module _ (input : List ℕ) where
         safe = safe_now;
       }
 
-      -- where the run stands before a call of its writer
-      record StandsBefore (lines : List RunLine) : Type 0 where
+      -- a text is that of the lines up to where the run stands, and a last text behind them
+      record StandsBefore (text : List ℕ) : Type 0 where
+        lines : List RunLine
         at : RunStanding
         behind : Option (List Answer)
         printed : HasPrinted head all lines at behind
+        last : List ℕ
+        parts : text ≡ run_lines_text head.cluster lines ++ last
 
       stands_before : (call : WriterCall head.cluster head.journal reading unread left)
-          → StandsBefore (lines_before_call head.cluster head.journal reading unread left call)
-      stands_before (in_run call) = record { at = call.run.before; behind = call.run.middle; printed = call.run.steps }
-      stands_before (at_rest call) = record { at = call.at; behind = _; printed = call.run }
-      stands_before (of_unexpected call) = record { at = call.run.run.last; behind = call.run.run.unread; printed = call.run.run.steps }
+          → StandsBefore (run_lines_text head.cluster (lines_before_call head.cluster head.journal reading unread left call)
+          ++ text_of_call head.cluster head.journal reading unread left call)
+      stands_before (in_run call) = record {
+        lines = call.printed;
+        at = call.run.before;
+        behind = call.run.middle;
+        printed = call.run.steps;
+        last = run_lines_text head.cluster call.told ++ run_line head.cluster call.at;
+        parts = ap (λ (t : List ℕ). t ++ run_line head.cluster call.at) (flat_map-append (run_line head.cluster) call.printed call.told)
+            ∙ append_assoc (run_lines_text head.cluster call.printed) (run_lines_text head.cluster call.told) (run_line head.cluster call.at);
+      }
+      stands_before (at_rest call) = record { lines = call.printed; at = call.at; behind = _; printed = call.run; last = []; parts = refl }
+      stands_before (of_unexpected call) = record {
+        lines = call.printed;
+        at = call.run.run.last;
+        behind = call.run.run.unread;
+        printed = call.run.run.steps;
+        last = _;
+        parts = refl;
+      }
       stands_before (of_refusal call) = record {
+        lines = call.printed;
         at = call.run.run.last;
         behind = Some [];
         printed = subst (λ z. Runs head.cluster head.journal.promotions (is_none z) (due 1 head.journal.events) (Some (answers_to_come all)) call.printed call.run.run.last (Some []))
             (sym call.stop) call.run.run.steps;
+        last = _;
+        parts = refl;
       }
 
       cut_off : IsCutOff head.cluster head.journal reading unread left before after → (part : List ℕ) × HasWrittenFront head all part before after
       cut_off cut =
-          let lines = lines_before_call head.cluster head.journal reading unread left cut.call in
           let stands = stands_before cut.call in
-          let cut_off = cut_at head.cluster head.journal.promotions (is_none all.stop) (due 1 head.journal.events) stands.at (Some (answers_to_come all)) stands.behind lines stands.printed
-          (text_of_call head.cluster head.journal reading unread left cut.call) cut.front.count in (
+          let front = cut.cut.front in
+          let cut_off = cut_at head.cluster head.journal.promotions (is_none all.stop) (due 1 head.journal.events) stands.at (Some (answers_to_come all)) stands.behind stands.lines stands.printed
+          stands.last front.count in (
             cut_off.part,
             record {
               lines = cut_off.lines;
               at = cut_off.stands;
               behind = cut_off.behind;
               so_far = cut_off.runs;
-              added = subst (λ (t : List ℕ). Adds before t after) cut_off.parts cut.front.added;
+              added = subst (λ (t : List ℕ). Adds before t after) (ap (take front.count) stands.parts ∙ cut_off.parts) front.added;
               ends = ends_now;
               begins = cut.begins;
               safe = safe_now;

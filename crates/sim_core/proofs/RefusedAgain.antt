@@ -103,8 +103,10 @@ module _ (text : List ℕ) where
   of_words line why fault =
       without_words sections_of (λ all. with_results) text (At line why) (ap (λ (found : Option (Fault LexCause)). unless found (rows_from 1 (raw_lines text))) fault)
 
-  words_in_head : (line : ℕ) (why : LexCause) → head_in text ≡ heads.refused line why → IsTextRefused text line (cause.Words why)
-  words_in_head line why is = of_words line why (subst (SaysHead [] most_bytes 1 (raw_lines text)) is (head_is [] most_bytes 1 (raw_lines text) (own_lines text)))
+  words_in_head : (line : ℕ) (why : InputCause) → head_in text ≡ heads.refused line why → IsTextRefused text line why
+  words_in_head line why is =
+      let found = subst (SaysHead [] most_bytes 1 (raw_lines text)) is (head_is [] most_bytes 1 (raw_lines text) (own_lines text)) in
+      of_words line found.lack found.first ∙ ap (λ (c : InputCause). Err (At line c)) (sym found.is_lack)
 
   -- why no more come of the lines behind a head
   module _ (bytes : List ℕ) (next room : ℕ) (is : head_in text ≡ heads.taken bytes next room) where
@@ -166,7 +168,7 @@ same_fault text _ _ (is_no_answer bytes head next room line w begun none) plain 
 
 -- and where the line lacks words
 same_words_fault : (text : List ℕ) (line : ℕ) (why : InputCause) → IsRefusedByLine text line why → (w : LexCause) → why ≡ cause.Words w → IsTextRefused text line why
-same_words_fault text _ _ (in_head _ _ (lacks_words line v is)) w same = words_in_head text line v is
+same_words_fault text _ _ (in_head _ _ (lacks_words line why is)) w same = words_in_head text line why is
 same_words_fault text _ _ (in_head _ _ (says_nothing bytes next room line why is says)) w same =
     absurd (start_none bytes (rows text bytes next room is) (head_read text bytes next room is) line w (says ∙ ap (λ (c : InputCause). Err (At line c)) same))
 same_words_fault text _ _ (has_no_words bytes head next room line v begun none) w same = words_behind text bytes next room begun.is head line v none
@@ -244,5 +246,5 @@ module _ (text : List ℕ) (fits : length text ≤ most_bytes) where
 
       by : (verdict : heads.HeadVerdict) → head_in text ≡ verdict → SaysHead [] most_bytes 1 (raw_lines text) verdict → HasRefusedLine text
       by (heads.taken bytes next room) is says = of_start bytes next room is (start_of bytes) refl
-      by (heads.refused line why) is says = record { line = line; why = cause.Words why; refused = in_head line (cause.Words why) (lacks_words line why is) }
+      by (heads.refused line why) is says = record { line = line; why = why; refused = in_head line why (lacks_words line why is) }
       by heads.too_large is over = let bytes_size = ap (λ (bs : List ℕ). length bs) (text_bytes text) in absurd (omega (arith, over, bytes_size, fits))

@@ -1,6 +1,6 @@
 -- A front of the text of a run is the lines of the steps that it has whole, and a part of what comes behind them.
-use Rattle.std.proofs.Common.{◌≡◌, ◌⊎◌, inl, inr, ℕ, ◌+◌, ◌-◌, ◌<◌, ◌≤◌, Bool, Option, List, [], ◌++◌, length, take, drop, append_assoc, refl, ap, sym, ◌∙◌, arith}
-use Rattle.std.proofs.Math.Seq.{take-append_seam, drop-append_seam, take-add}
+use Rattle.std.proofs.Common.{◌≡◌, ◌⊎◌, inl, inr, ℕ, ◌+◌, ◌-◌, ◌<◌, ◌≤◌, Bool, Option, List, [], ◌++◌, length, take, append_assoc, refl, ap, sym, ◌∙◌, arith}
+use Rattle.std.proofs.Math.Seq.{take-append-add}
 use Rattle.std.proofs.lemmas.Bool.{cases_lt}
 use Rattle.std.proofs.lemmas.Grind.{flat_map-append}
 use Rattle.cluster_types.specs.declared.cluster.Cluster.{Cluster}
@@ -10,12 +10,6 @@ use Rattle.cluster_types.specs.declared.run.RunLine.{RunLine}
 use Rattle.cluster_types.specs.Runs.{RunStanding, Runs, here, one_more}
 use Rattle.cluster_types.specs.Texts.{run_line}
 use Rattle.live_run.specs.Ends.{run_lines_text}
-
-take_behind : (k : ℕ) (first rest : List ℕ) → take (length first + k) (first ++ rest) ≡ first ++ take k rest
-take_behind k first rest =
-    take-add (length first) k (first ++ rest)
-    ∙ (ap (λ (t : List ℕ). t ++ take k (drop (length first) (first ++ rest))) (take-append_seam first rest)
-    ∙ ap (λ (t : List ℕ). first ++ take k t) (drop-append_seam first rest))
 
 module _ (c : Cluster) (promotions : List Promotion) (whole : Bool) where
   -- the first bytes of a text, from where a run stands
@@ -55,7 +49,7 @@ module _ (c : Cluster) (promotions : List Promotion) (whole : Bool) where
             part = behind.part;
             parts = ap (λ (t : List ℕ). take count t) text
                 ∙ (ap (λ (n : ℕ). take n (run_lines_text c lines ++ (run_lines_text c more ++ last))) size
-                ∙ (take_behind (count - length (run_lines_text c lines)) (run_lines_text c lines) (run_lines_text c more ++ last)
+                ∙ (take-append-add (run_lines_text c lines) (run_lines_text c more ++ last) (count - length (run_lines_text c lines))
                 ∙ (ap (λ (t : List ℕ). run_lines_text c lines ++ t) behind.parts
                 ∙ (sym (append_assoc (run_lines_text c lines) (run_lines_text c behind.lines) behind.part)
                 ∙ ap (λ (t : List ℕ). t ++ behind.part) (sym (flat_map-append (run_line c) lines behind.lines))))));

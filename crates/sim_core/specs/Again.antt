@@ -5,7 +5,7 @@ use Rattle.input_reading.specs.declared.input.reading.Input.{Input}
 use Rattle.sim_core.specs.Check.{check_text}
 use Rattle.input_reading.specs.Reading.{ReadsInput}
 
--- the text is read as an input with the statements and the cluster of another, and `check` writes the text itself of it
+-- the text is read as an input with the statements of another, but for their lines, and with its cluster; and of it `check` writes the text itself
 pub record IsReadAgain (text : List ℕ) (whole : Input) : Type 0 where
   pub again : Input
   pub reads : ReadsInput text again

@@ -111,7 +111,7 @@ InputHasRoom nothing input = length input ≤ most_bytes
 InputHasRoom whole input = length input ≤ most_bytes
 InputHasRoom live input = Unit {0}
 
--- where no count rose and the input has room, each answer but out of memory is the one that the input gets
+-- where the input has room, each answer but out of memory is the one that the input gets (run says this where no count rose)
 abbrev pub IsCompleteAnswer : Command → Option (List ℕ) → Status → Type 0
 IsCompleteAnswer word told status = IfSome (told_input (intake word) told) (λ input. InputHasRoom (intake word) input → status ≢ NoMemory
     → (due : Status) → (status ≡ due) ↔ IsStatusDue (Gets word input) due)

@@ -27,8 +27,8 @@ use Rattle.sim_core.specs.Answers.{IsWritten}
 use Rattle.sim_core.specs.Replay.{IsBegun, IsHeadRefusal, IsHeadTooLarge, coming_behind}
 use Rattle.written_runs.specs.OverLines.{AreLinesSafe}
 
--- for a journal there is one plan, and its targets obey the mandatory rules. That each decision of it is the best that those before it left is part of what a
--- plan is
+-- for a journal there is one plan, and its targets obey the mandatory rules. That each decision is the best that those before it left is part of
+-- `IsPlan`
 pub record HasOnePlan (c : Cluster) (promotions : List Promotion) (es : List Event) : Type 0 where
   pub placed : Placed
   pub actions : List Action

@@ -70,7 +70,7 @@ module _ (c : Cluster) (journal : Journal) (lines : List RunLine) where
     pub same : take place printed ≡ take place lines
     pub different : slice_get lines place ≢ Some due
 
-  -- up to this place they have the lines that the run prints, and there it is cut, or it is over and they have one line more
+  -- up to this place they have the lines that the run prints, and there it is cut, or it is over and they go on
   pub record IsUndue (place : ℕ) : Type 0 where
     pub printed : List RunLine
     pub left : List Event

@@ -35,8 +35,8 @@ module _ (input : List ℕ) (left before after : Option (List ℕ)) where
     pub at_end : IfSome left (λ bytes. bytes ≡ [])
     pub written : HasWrittenReplay Done
 
-  -- the head was taken whole, and this became of the run that follows from it. The source had these bytes left behind the head, and fewer than 4,096 more
-  -- were taken with it
+  -- the head was taken whole, and this became of the run that follows from it. Behind the head fewer than 4,096 bytes are held, and the source had the
+  -- others left
   pub record IsBehindHead (Became : Cluster → Journal → Reading → List ℕ → Option (List ℕ) → Option (List ℕ) → Option (List ℕ) → Type 0) : Type 0 where
     pub bytes : List ℕ
     pub head : Head

@@ -2,7 +2,6 @@
 -- Administration, "Transitions"; the sections, the result lines and the ends of a run are rules of this project).
 use Rattle.std.specs.Prelude.{◌≡◌, ◌⊎◌, ℕ, List, [], drop, length, Ok, Err}
 use Rattle.crm_lex.specs.RawLines.{raw_lines}
-use Rattle.crm_lex.specs.declared.fault.LexCause.{LexCause}
 use Rattle.faults.specs.declared.fault.Fault.TheVariants.{At}
 use Rattle.cluster_types.specs.declared.cluster.Cluster.{Cluster}
 use Rattle.cluster_types.specs.declared.journal.Journal.{Journal}
@@ -11,7 +10,6 @@ use Rattle.live_run.specs.Coming.{Coming, coming}
 use Rattle.live_run.specs.Heads as heads
 use Rattle.live_run.specs.Ends.{IsBoundedText, IsCutText, IsRefusedText, IsWholeText}
 use Rattle.input_reading.specs.declared.input.cause.InputCause.{InputCause}
-use Rattle.input_reading.specs.declared.input.cause.InputCause.TheVariants as cause
 use Rattle.input_reading.specs.declared.input.reading.Head.{Head}
 use Rattle.sim_core.specs.declared.status.Status.{Status}
 use Rattle.sim_core.specs.declared.status.Status.TheVariants.{Done, Refused, TooLarge, Unexpected}
@@ -33,9 +31,9 @@ abbrev pub coming_behind : List ℕ → List ℕ → Head → ℕ → ℕ → Co
 coming_behind input bytes head next room =
     coming head.cluster longest_line (record { moment = moment_of head.journal.events; before = 0; line = next }) room (raw_lines (drop (length bytes) input))
 
--- the head has a fault: its first line that can't be cut into words; or, where there is none, the fault of what it says
+-- the head has a fault: its first line that can't be cut into words; or, where there is none, the first fault of its text
 pub data IsHeadFault (input : List ℕ) : ℕ → InputCause → Type 0 where
-  lacks_words : (line : ℕ) (why : LexCause) → head_in input ≡ heads.refused line why → IsHeadFault input line (cause.Words why)
+  lacks_words : (line : ℕ) (why : InputCause) → head_in input ≡ heads.refused line why → IsHeadFault input line why
   says_nothing : (bytes : List ℕ) (next room line : ℕ) (why : InputCause) → head_in input ≡ heads.taken bytes next room → start_of bytes ≡ Err (At line why)
       → IsHeadFault input line why
 

@@ -13,7 +13,7 @@ use crate::verdict::{Clause, Verdict};
 use cluster_types::{Action, Answer, Cluster, Placed};
 use graph_exec::{Heard, Watcher};
 use input_reading::RunTextLine;
-use trace_text::{LinePlace, RunLineRef, next_target_line};
+use trace_text::{RunLineRef, TargetLines};
 
 /// Takes the next written line each time that a run tells one, and stops at the first that isn't the same. It takes no memory.
 #[derive(Drop)]
@@ -98,8 +98,8 @@ impl<'a> Auditor<'a> {
         if let Heard::Stop = self.hear(&RunLineRef::Transition(transition)) {
             return Heard::Stop;
         }
-        let mut place = LinePlace::FIRST;
-        while let Some(line) = next_target_line(self.cluster, placed, &mut place) {
+        let mut lines = TargetLines::new(self.cluster, placed);
+        while let Some(line) = lines.next() {
             if let Heard::Stop = self.hear(&line) {
                 return Heard::Stop;
             }

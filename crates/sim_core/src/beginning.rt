@@ -7,11 +7,11 @@ ghost use Rattle.cluster_types.specs.Journals.{moment_of};
 ghost use Rattle.cluster_types.specs.Safety.{IsAtRest};
 ghost use Rattle.cluster_types.specs.Valid.{IsValid};
 ghost use Rattle.live_run.specs.Heads.{CanGoOn};
-ghost use Rattle.sim_core.specs.Inner.LiveSteps.{IsBehind, StopsBy, head_end_of, fresh};
+ghost use Rattle.sim_core.specs.Inner.LiveSteps.{IsBehind, StopsBy, fresh};
 
 use cluster_io::{LineReader, Source};
 use crm_lex::WordBuf;
-use input_reading::{Head, InputCause, InputFault, read_start};
+use input_reading::{Head, InputFault, read_start};
 use live_run::{HeadStop, HeadText, read_head};
 use std::alloc::Global;
 
@@ -23,38 +23,12 @@ pub(crate) struct Beginning {
     pub next: u64,
 }
 
-/// Why there is none.
-#[derive(Clone, Copy)]
-pub(crate) enum HeadEnd {
-    /// A line of the head is refused.
-    Refused { line: u32, cause: InputCause },
-    /// A line of the head goes past the limit of bytes.
-    TooLarge,
-    /// The source failed.
-    ReadFault,
-    NoMemory,
-}
-
-fn head_end(stop: HeadStop) -> HeadEnd
-    ensures { result ≡ head_end_of stop }
-{
-    match stop {
-        HeadStop::Refused { line, cause } => HeadEnd::Refused {
-            line,
-            cause: InputCause::Words(cause),
-        },
-        HeadStop::TooLarge => HeadEnd::TooLarge,
-        HeadStop::ReadFault => HeadEnd::ReadFault,
-        HeadStop::NoMemory => HeadEnd::NoMemory,
-    }
-}
-
 /// Reads the head of an input from a reader that was just made, and what it says.
 pub(crate) fn begin<S: Source>(
     alloc: Global,
     reader: &mut LineReader<'_, S>,
     words: &mut WordBuf,
-) -> Result<Beginning, HeadEnd>
+) -> Result<Beginning, HeadStop>
     requires { reading_of reader.old ≡ fresh }
     ensures begun { IfSome (S.left (source_of reader.old)) (λ input.
         IfOk result (λ begun. IsBehind input begun.head (reading_of reader.new) (S.left (source_of reader.new)))) }
@@ -64,16 +38,16 @@ pub(crate) fn begin<S: Source>(
     ensures at_rest { IfOk result (λ begun. IsAtRest begun.head.journal.events) }
     ensures moment { IfOk result (λ begun. moment_of begun.head.journal.events < 2 ^ 40) }
 
-    ensures bears { Bears S.counts_only_failures (IsErrOf result HeadEnd.ReadFault) (S.faults (source_of reader.old)) (S.faults (source_of reader.new)) }
+    ensures bears { Bears S.counts_only_failures (IsErrOf result HeadStop.ReadFault) (S.faults (source_of reader.old)) (S.faults (source_of reader.new)) }
     ensures same_source { loan_of reader.new ≡ loan_of reader.old }
 {
     let HeadText { text, next } = match read_head(alloc, reader, words) {
         Ok(head) => head,
-        Err(stop) => return Err(head_end(stop)),
+        Err(stop) => return Err(stop),
     };
     match read_start(alloc, text) {
         Ok(head) => Ok(Beginning { head, next }),
-        Err(InputFault::At { line, cause }) => Err(HeadEnd::Refused { line, cause }),
-        Err(InputFault::NoMemory) => Err(HeadEnd::NoMemory),
+        Err(InputFault::At { line, cause }) => Err(HeadStop::Refused { line, cause }),
+        Err(InputFault::NoMemory) => Err(HeadStop::NoMemory),
     }
 }

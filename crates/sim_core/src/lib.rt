@@ -43,7 +43,10 @@ mod world;
 mod audit_laws;
 mod laws;
 
-pub use audit_laws::{faulty_lines_are_unique, faulty_runs_are_not_lawful, whole_runs_are_lawful};
+pub use audit_laws::{
+    faulty_lines_are_unique, faulty_runs_are_not_lawful, what_replay_writes_is_lawful,
+    whole_runs_are_lawful,
+};
 pub use auditing::audit;
 pub use help::{HELP, VERSION};
 pub use laws::{

@@ -14,14 +14,14 @@ ghost use Rattle.sim_core.specs.Inner.LiveSteps.{StopsBy, WritesFault, status_of
 ghost use Rattle.sim_core.specs.Replay.{IsReplayOutput};
 ghost use Rattle.sim_core.specs.Table.{live};
 
-use crate::beginning::{Beginning, HeadEnd, begin};
+use crate::beginning::{Beginning, begin};
 use crate::status::Status;
 use crate::text_word::refusal_text;
 use cluster_io::{HeldLines, LineReader, Sink, Source, write_text};
 use cluster_types::{Journal, moment_of};
 use crm_lex::WordBuf;
 use input_reading::{Head, InputCause, MOST_BYTES};
-use live_run::{LineOutcomes, LiveEnd, run_live};
+use live_run::{HeadStop, LineOutcomes, LiveEnd, run_live};
 use names::Names;
 use std::alloc::Global;
 
@@ -43,18 +43,18 @@ fn refuse<W: Sink>(alloc: Global, line: u32, cause: InputCause, out: &mut W) -> 
 }
 
 /// Ends the word where there is no head that says something.
-fn stop<W: Sink>(alloc: Global, end: HeadEnd, out: &mut W) -> Status
+fn stop<W: Sink>(alloc: Global, end: HeadStop, out: &mut W) -> Status
     ensures says { (input : List ℕ) (left : Option (List ℕ)) → StopsBy input left end → SaysLive input left (W.written out.old) (W.written out.new) result }
     ensures status { MayAnswer true live IsReplayOutput result }
-    ensures read_cause { result ≡ Status.ReadFault → end ≡ HeadEnd.ReadFault }
-    ensures read_fault { end ≡ HeadEnd.ReadFault → result ≡ Status.ReadFault }
+    ensures read_cause { result ≡ Status.ReadFault → end ≡ HeadStop.ReadFault }
+    ensures read_fault { end ≡ HeadStop.ReadFault → result ≡ Status.ReadFault }
     ensures bears { Bears W.counts_only_failures (result ≡ Status.WriteFault) (W.faults out.old) (W.faults out.new) }
 {
     match end {
-        HeadEnd::Refused { line, cause } => refuse(alloc, line, cause, out),
-        HeadEnd::TooLarge => Status::TooLarge,
-        HeadEnd::ReadFault => Status::ReadFault,
-        HeadEnd::NoMemory => Status::NoMemory,
+        HeadStop::Refused { line, cause } => refuse(alloc, line, cause, out),
+        HeadStop::TooLarge => Status::TooLarge,
+        HeadStop::ReadFault => Status::ReadFault,
+        HeadStop::NoMemory => Status::NoMemory,
     }
 }
 

@@ -82,10 +82,16 @@ pub first_agrees : (k : WorldOf) (c : Cluster) (es : List Event) → k.reality.c
 first_agrees k c es of since shows =
     record { of_cluster = of; first = es; began = since; world = first_world c es; lives = begins_here; shows = shows; few = omega arith }
 
--- nothing comes while nothing is in flight
-pub silent_agrees : (k : WorldOf) (c : Cluster) (es : List Event) (taken : ℕ) (flight : List (ℕ × Action)) → Agrees k c es taken → length flight ≡ 0
-    → AgreesSilent (Agrees k) c es taken flight
-silent_agrees k c es taken flight a none = record { ends = λ busy. absurd (let f : ⊥ = omega arith in f); idle = λ e. a }
+-- nothing comes while nothing is in flight, however often it was asked
+abbrev counted : WorldOf → ℕ → ℕ → WorldOf
+counted k asked answered = record { reality = k.reality; since = k.since; asked = asked; answered = answered }
+
+pub silent_agrees : (k : WorldOf) (asked answered : ℕ) (c : Cluster) (es : List Event) (taken : ℕ) (flight : List (ℕ × Action)) → Agrees k c es taken → length flight ≡ 0
+    → AgreesSilent (Agrees (counted k asked answered)) c es taken flight
+silent_agrees k asked answered c es taken flight a none = record {
+  ends = λ busy. absurd (let f : ⊥ = omega arith in f);
+  idle = λ e. record { of_cluster = a.of_cluster; first = a.first; began = a.began; world = a.world; lives = a.lives; shows = a.shows; few = a.few };
+}
 
 module _ (k : WorldOf) (c : Cluster) (es : List Event) (taken : ℕ) (a : Agrees k c es taken) (new : WorldOf) (of : IsOfOne k new) where
   -- it goes on to a world that it lives

@@ -48,5 +48,6 @@ ReallyAddsNoCopy number first t before at =
     (w : World) → Lives t.cluster number first (journal t before) w
     → count_of_others t.cluster at.node (λ m. is_there (found_at t.cluster w.cells at.leaf m)) < copies t.cluster at.leaf
 
+-- no start among the events makes a copy too many, by what really runs
 abbrev pub NoSecondCopyReally : ℕ → List Event → Transition → List Event → Type 0
 NoSecondCopyReally number first t events = AtEachBegin (λ before k a. IfSome (op_cell op.Start a) (ReallyAddsNoCopy number first t before)) events

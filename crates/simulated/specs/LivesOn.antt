@@ -29,7 +29,7 @@ module _ (c : Cluster) (number : ℕ) where
     world_by (turn.Joins node) = after_joining c (turned c number w) node
     world_by (turn.Ends place f) = option_map_or (λ (p : ℕ × Action). after_end c (turned c number w) f p.1) (slice_get flight place) w
 
-    -- the same of the turn that comes next
+    -- the answer of the turn that comes next, and the simulated cluster behind it
     abbrev pub next_answer : Option Answer
     next_answer = answer_by (turn_of c number w (length flight))
 

@@ -66,7 +66,7 @@ standing_by c (Some went_down) = standing.Off
 standing_by c (Some was_fenced) = standing.Off
 standing_by c None = standing.Off
 
--- what runs after a journal: what it says that may run, as far as it says anything of the cell
+-- what runs after a journal: what may run by it, where an outcome of the cell is in force; elsewhere nothing
 abbrev pub first_real : Cluster → List Event → Cells
 first_real c es r n =
     if is_none (last_outcome c r n es) then real.Off

@@ -43,7 +43,7 @@ fenced (Operation op leaf node interval role) nodes = nodes
 fenced (MigrateTo leaf source target) nodes = nodes
 fenced (MigrateFrom leaf source target) nodes = nodes
 
--- what comes up has come up
+-- in each cell what comes up has come up
 abbrev pub calm : World → World
 calm w = record { nodes = w.nodes; cells = λ r n. risen (w.cells r n); drawn = w.drawn; faults = w.faults }
 
@@ -92,7 +92,7 @@ module _ (c : Cluster) (number : ℕ) (w : World) where
       happens_behind (if nat_lt (drawn_next number drawn (length c.nodes)) (length c.nodes) && stands (w.nodes (drawn_next number drawn (length c.nodes)))
       then happens (drawn_next number drawn (length c.nodes)) else action_ends fate.True) (drawn + 1)
 
-  -- what happens by the first number, behind so many
+  -- what happens by the first number, where so many were drawn by then
   abbrev pub happens_by : Option ℕ → ℕ → HappensBehind
   happens_by None drawn = happens_behind (action_ends fate.True) drawn
   happens_by (Some die) drawn =

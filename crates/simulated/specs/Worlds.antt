@@ -9,10 +9,12 @@ use Rattle.simulated.specs.Kept.{IsOfSame, RealityOf, ShowsWorld}
 use Rattle.simulated.specs.Lives.{Lives}
 use Rattle.simulated.specs.RealWorlds.{World}
 
--- what is kept of the simulated cluster, and how many events the journal had with which it began
+-- what is kept of the simulated cluster, how many events the journal had with which it began, how often it was asked, and how many answers it has given
 pub record WorldOf : Type 0 where
   pub reality : RealityOf
   pub since : ℕ
+  pub asked : ℕ
+  pub answered : ℕ
 
 -- it agrees with a journal of its cluster after so many answers from outside: the journal is one that it makes, from its own first events on, and it stands
 -- now as it stands then. No more of these answers were taken than faults were given

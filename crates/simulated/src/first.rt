@@ -11,7 +11,7 @@ ghost use Rattle.simulated.specs.Kept.{Holds, HoldsNodes, ShowsWorld};
 ghost use Rattle.simulated.specs.RealWorlds as worlds;
 ghost use Rattle.simulated.specs.Inner.Firsts.{HearsOutcomes, IsFilled};
 
-use crate::heard::heard_of;
+use crate::heard_cells::heard_of;
 use crate::{Real, Reality, Standing};
 use cluster_types::{Cluster, Event, LeafId, NoMemory, NodeId, NodeState, cell_place};
 use state_unpack::Known;

@@ -20,7 +20,7 @@ mod turning;
 
 // What really is at first.
 mod first;
-mod heard;
+mod heard_cells;
 
 // The source.
 mod world;

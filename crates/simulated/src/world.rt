@@ -22,6 +22,9 @@ pub struct World<'c> {
     reality: Reality<'c>,
     /// How many events the journal had with which it began.
     since: usize,
+    /// How often it was asked, and how many answers it has given.
+    asked: u64,
+    answered: u64,
 }
 
 impl<'c> Model for World<'c> {
@@ -29,7 +32,7 @@ impl<'c> Model for World<'c> {
 
     ghost Value = { WorldOf };
 
-    ghost view = { λ k. record { reality = k.reality; since = k.since } };
+    ghost view = { λ k. record { reality = k.reality; since = k.since; asked = k.asked; answered = k.answered } };
 }
 
 impl<'c> World<'c> {
@@ -53,6 +56,8 @@ impl<'c> World<'c> {
         Ok(World {
             reality,
             since: journal.events.len(),
+            asked: 0,
+            answered: 0,
         })
     }
 
@@ -74,7 +79,9 @@ impl Outcomes for World<'_> {
 
     ghost faults = { λ _. 0 };
 
-    ghost asked = { λ _. 0 };
+    ghost asked = { λ k. k.asked };
+
+    ghost answered = { λ k. k.answered };
 
     ghost careful = { λ _. true };
 
@@ -111,10 +118,12 @@ impl Outcomes for World<'_> {
     }
 
     fn next(&mut self, flight: &InFlight) -> Next {
+        self.asked = self.asked.saturating_add(1);
         let count = flight.count();
         if count == 0 {
             return Next::Silent;
         }
+        self.answered = self.answered.saturating_add(1);
         match self.reality.turn(count) {
             Turn::Leaves { node } => Next::Answer(self.reality.leave(node)),
             Turn::Joins { node } => Next::Answer(self.reality.join(node)),

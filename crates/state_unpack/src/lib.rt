@@ -28,7 +28,7 @@ mod nodes;
 mod states;
 
 // What is kept while a journal goes on, and what a whole journal tells.
-mod known;
+mod known_states;
 mod unpacking;
 
 // What the cluster may do, and which nodes are to be fenced.
@@ -42,7 +42,7 @@ pub use acting::rights;
 pub use counts::{banned, failures};
 pub(crate) use failing::{is_failure, is_outcome};
 pub use fencing::to_fence;
-pub use known::Known;
+pub use known_states::Known;
 pub use laws::valid_clusters_have_few_monitors;
 pub use outcomes::{is_among, is_bad, is_ignored};
 pub(crate) use tally::Tally;

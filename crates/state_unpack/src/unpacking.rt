@@ -6,7 +6,7 @@ ghost use Rattle.cluster_types.specs.Unpacked.{states_of};
 ghost use Rattle.cluster_types.specs.Valid.{KeepsLimits};
 ghost use Rattle.state_unpack.specs.CellsKept.{has_few_monitors};
 
-use crate::known::Known;
+use crate::known_states::Known;
 use cluster_types::{Cluster, Journal, NoMemory, States};
 use std::alloc::Global;
 

@@ -1,9 +1,9 @@
 -- A line of a run has room in a buffer of 1,024 bytes.
-use Rattle.std.proofs.Common.{arith, ◌≡◌, ◌+◌, ◌<◌, ◌≤◌, ◌^◌, ℕ, true, false, List, ◌++◌, codes, length, take, sym, ap, ◌∙◌}
+use Rattle.std.proofs.Common.{arith, ◌≡◌, ◌+◌, ◌<◌, ◌≤◌, ◌^◌, ℕ, true, false, List, [], ◌++◌, codes, length, take, sym, ap, ◌∙◌}
 use Rattle.std.specs.Prelude.{min}
 use Rattle.std.specs.Fmt.{decimal}
 use Rattle.std.proofs.lemmas.Fmt.{length-decimal-le}
-use Rattle.std.proofs.lemmas.List.{length-append, take_min}
+use Rattle.std.proofs.lemmas.List.{length-append, take_all, take_min}
 use Rattle.std.proofs.Math.Seq.{take-append-add}
 use Rattle.cluster_types.specs.declared.cluster.Cluster.{Cluster}
 use Rattle.cluster_types.specs.declared.journal.Action.{Action}
@@ -31,6 +31,10 @@ pub first_added : (room : ℕ) (old new bytes : List ℕ) → room + length old 
 first_added room old new bytes size is =
     let all : length old + room ≡ 1024 = omega (arith, size) in
     is ∙ ap (λ (t : List ℕ). old ++ t) (take_min room bytes) ∙ sym (take-append-add old bytes room) ∙ ap (λ n. take n (old ++ bytes)) all
+
+-- a line of fewer bytes than the room is kept whole
+pub kept_whole : (old new line : List ℕ) → old ≡ [] → new ≡ take 1024 (old ++ line) → length line < 1024 → new ≡ line
+kept_whole old new line none is short = is ∙ ap (λ (t : List ℕ). take 1024 (t ++ line)) none ∙ take_all 1024 line (omega (arith, short))
 
 pub few_digits : (k : ℕ) → k < 2 ^ 64 → HasFewDigits k
 few_digits k lt = length-decimal-le 20 k (omega arith) (omega (arith, lt)) lt
@@ -111,13 +115,13 @@ module _ (c : Cluster) (names : HasShortNames c) where
   short_reason (Held id) h = behind 5 256 (codes "Held ") id (omega arith) (short_name id h)
 
   -- words, and the end of their line
-  line_of : (words : List ℕ) → length words ≤ 1000 → length (words ++ codes "\n") ≤ 1024
+  line_of : (words : List ℕ) → length words ≤ 1000 → length (words ++ codes "\n") < 1024
   line_of words h = let s = behind 1000 1 words (codes "\n") h (omega arith) in omega (arith, s)
 
-  number_line : (word : List ℕ) (k : ℕ) → length word ≤ 20 → HasFewDigits k → length (word ++ decimal k ++ codes "\n") ≤ 1024
+  number_line : (word : List ℕ) (k : ℕ) → length word ≤ 20 → HasFewDigits k → length (word ++ decimal k ++ codes "\n") < 1024
   number_line word k short h = let s = numbered word k short h in line_of (word ++ decimal k) (omega (arith, s))
 
-  pub short_line : (l : RunLineRef) → HasName l → IsLineShort l → length (run_line c (lent_line l)) ≤ 1024
+  pub short_line : (l : RunLineRef) → HasName l → IsLineShort l → length (run_line c (lent_line l)) < 1024
   short_line (lent.Transition k) named h = number_line (codes "transition ") k (omega arith) h
   short_line (lent.Complete k) named h = number_line (codes "complete ") k (omega arith) h
   short_line (lent.Aborted k) named h = number_line (codes "aborted ") k (omega arith) h
@@ -140,7 +144,7 @@ module _ (c : Cluster) (names : HasShortNames c) where
 
 -- the line of a refusal, by the name of a cause
 pub short_refusal : (line : ℕ) (cause : List ℕ) → length cause ≤ 100 → HasFewDigits line
-    → length (codes "refused " ++ decimal line ++ codes " " ++ cause ++ codes "\n") ≤ 1024
+    → length (codes "refused " ++ decimal line ++ codes " " ++ cause ++ codes "\n") < 1024
 short_refusal line cause name digits =
     let number = behind 8 20 (codes "refused ") (decimal line) (omega arith) digits in
     let space = behind 28 1 (codes "refused " ++ decimal line) (codes " ") number (omega arith) in

@@ -15,7 +15,7 @@ use Rattle.trace_text.specs.declared.target_walk.LineColumn.TheVariants as colum
 use Rattle.trace_text.specs.declared.run_line_ref.RunLineRef.{RunLineRef}
 use Rattle.trace_text.specs.declared.target_walk.LinePlace.{LinePlace}
 use Rattle.trace_text.specs.RunLines.{lent_line}
-use Rattle.trace_text.specs.TargetWalk.{all_lines_from, goal_lines_from, leaf_lines_from, lines_from, lines_in, next_place, places_left, reason_lines, target_lines_from}
+use Rattle.trace_text.specs.Inner.TargetWalk.{all_lines_from, goal_lines_from, leaf_lines_from, lines_from, lines_in, next_place, places_left, reason_lines, target_lines_from}
 
 range_more : {X : Type 0} (f : ℕ → List X) (from to : ℕ) → from < to → flat_map f (range_with_len from (to - from)) ≡ f from ++ flat_map f (range_with_len (from + 1) (to - (from + 1)))
 range_more f from to lt =

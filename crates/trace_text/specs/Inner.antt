@@ -4,4 +4,5 @@ pub mod Backward
 pub mod Found
 pub mod Room
 pub mod ShortNumbers
+pub mod TargetWalk
 pub mod Walk

@@ -1,4 +1,3 @@
 pub mod Inner
 pub mod Losses
 pub mod RunLines
-pub mod TargetWalk

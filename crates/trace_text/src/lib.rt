@@ -14,6 +14,7 @@ mod walk;
 mod graph_lines;
 mod loss_lines;
 mod score_lines;
+mod target_lines;
 mod target_walk;
 
 // The lines of a run: one by one without memory, and all in a text.
@@ -37,4 +38,5 @@ pub use run_line_ref::RunLineRef;
 pub use run_lines::{write_line, write_refusal};
 pub use runs::run_text;
 pub use score_lines::{push_decision, push_total, score_text};
-pub use target_walk::{LineColumn, LinePlace, next_target_line, push_targets};
+pub use target_lines::TargetLines;
+pub use target_walk::push_targets;

@@ -10,8 +10,8 @@ use std::marker::Model;
 /// How many bytes a line may have.
 const ROOM: usize = 1024;
 
-/// A line as it grows, without memory, of at most 1,024 bytes. It is lent to whoever writes a line, and serves again for the
-/// next. Contracts see it as its bytes.
+/// A line as it grows, without memory. It has room for 1,024 bytes, is lent to whoever writes a line, and serves again for
+/// the next. Contracts see it as its bytes.
 #[derive(Drop)]
 pub struct LineBuf {
     bytes: [u8; ROOM],
@@ -48,14 +48,14 @@ impl LineBuf {
         self.len = 0;
     }
 
-    /// How many more bytes it has room for.
+    /// How many more bytes it has room for, of 1,024.
     fn room(&self) -> usize
         ensures { result + length self.now ≡ 1024 }
     {
         ROOM - self.len
     }
 
-    /// Adds bytes for which there is room.
+    /// Adds bytes. It asks for room: all together are at most 1,024.
     fn add(&mut self, bytes: &[u8])
         requires { length self.old + length bytes.now ≤ 1024 }
         ensures { self.new ≡ self.old ++ bytes.now }
@@ -65,7 +65,7 @@ impl LineBuf {
         self.len = end;
     }
 
-    /// Its bytes.
+    /// Its bytes, at most 1,024.
     pub fn as_slice(&self) -> &[u8]
         ensures text { result.now ≡ self.now }
         ensures size { length result.now ≤ 1024 }

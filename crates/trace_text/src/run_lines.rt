@@ -1,6 +1,6 @@
 //! The lines of a run.
 
-ghost use Rattle.std.specs.Prelude.{◌≡◌, ◌≤◌, ◌++◌, codes, decimal, length, OnErr, OnOk};
+ghost use Rattle.std.specs.Prelude.{◌≡◌, ◌<◌, ◌≤◌, ◌++◌, codes, decimal, length, OnErr, OnOk};
 ghost use Rattle.cluster_types.specs.declared.cluster.Cluster.{Cluster as ClusterOf};
 ghost use Rattle.cluster_types.specs.Fields.{leaf_name};
 ghost use Rattle.cluster_types.specs.Texts as texts;
@@ -332,7 +332,8 @@ pub(crate) fn put_line<T: LineText>(
     text.put(b"\n")
 }
 
-/// Writes the line of a run, with its line feed, in place of what the buffer has. It takes no memory.
+/// Writes the line of a run, with its line feed, in place of what the buffer has. A line has fewer than 1,024 bytes. It
+/// takes no memory.
 ///
 /// It asks for names of at most 256 bytes, as a valid cluster has (`valid_clusters_have_short_names`), and that the id
 /// of a rule that holds a leaf back is a name (`reasons_with_names_are_named`). A leaf or node that the cluster doesn't
@@ -340,7 +341,8 @@ pub(crate) fn put_line<T: LineText>(
 pub fn write_line(cluster: &Cluster, line: &RunLineRef<'_>, text: &mut LineBuf)
     requires names { HasShortNames cluster.now }
     requires reason { HasName line.now }
-    ensures { text.new ≡ texts.run_line cluster.now (lent_line line.now) }
+    ensures text { text.new ≡ texts.run_line cluster.now (lent_line line.now) }
+    ensures size { length text.new < 1024 }
 {
     line_is_short(line);
     text.clear();
@@ -363,10 +365,12 @@ fn put_refusal<T: LineText>(text: &mut T, line: u32, cause: &str) -> Result<(), 
 }
 
 /// Writes `refused LINE CAUSE`, with its line feed, in place of what the buffer has: the last line of a run that asks for a
-/// line which isn't read. It takes no memory. It asks for the name of a cause of at most 100 bytes. Rule of this project.
+/// line which isn't read. The line has fewer than 1,024 bytes. It takes no memory. It asks for the name of a cause of at
+/// most 100 bytes. Rule of this project.
 pub fn write_refusal(line: u32, cause: &str, text: &mut LineBuf)
     requires { length cause.now ≤ 100 }
-    ensures { text.new ≡ codes "refused " ++ decimal line ++ codes " " ++ cause.now ++ codes "\n" }
+    ensures text { text.new ≡ codes "refused " ++ decimal line ++ codes " " ++ cause.now ++ codes "\n" }
+    ensures size { length text.new < 1024 }
 {
     number_is_short(line as u64);
     text.clear();

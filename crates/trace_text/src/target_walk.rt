@@ -1,18 +1,16 @@
-//! The target lines, one by one.
+//! A walk through the target lines of all leaves.
 
-ghost use Rattle.std.specs.Prelude.{◌≡◌, ◌∷◌, ◌++◌, ◌<◌, [], true, ℕ, Some, List, IfSome, MatchOption, OnOk, length, slice_get};
+ghost use Rattle.std.specs.Prelude.{◌≡◌, ◌∷◌, ◌++◌, ◌<◌, [], IfSome, MatchOption, OnOk, length};
 ghost use Rattle.std.specs.List.{flat_map};
-ghost use Rattle.cluster_types.specs.declared.placement.NoReason.TheVariants.{Held};
 ghost use Rattle.cluster_types.specs.Tables.{targets_of};
 ghost use Rattle.cluster_types.specs.Texts as texts;
 ghost use Rattle.cluster_types.specs.Valid.{KeepsLimits};
-ghost use Rattle.crm_lex.specs.Names.{is_name};
 ghost use Rattle.trace_text.specs.RunLines.{HasName, lent_line};
-ghost use Rattle.trace_text.specs.TargetWalk.{AreReasonsNamed, IsLineFound, lines_from, lines_in, next_place, target_lines_from};
+ghost use Rattle.trace_text.specs.Inner.TargetWalk.{AreReasonsNamed, IsLineFound, lines_in, next_place, target_lines_from};
 
 use crate::run_line_ref::RunLineRef;
 use crate::run_lines::put_line;
-use cluster_types::{Cluster, NoReason, NodeId, Pin, Placed, Table, Target, pin_of};
+use cluster_types::{Cluster, NoReason, NodeId, Pin, Table, Target, pin_of};
 use faults::NoMemory;
 
 /// What a target line of a leaf says.
@@ -34,7 +32,7 @@ pub struct LinePlace {
 }
 
 impl LinePlace {
-    /// The first place.
+    /// The first place: from it all target lines come.
     pub const FIRST: LinePlace = LinePlace {
         leaf: 0,
         column: LineColumn::Pin,
@@ -103,7 +101,7 @@ fn line_at<'a>(
 }
 
 /// The next target line from a place on, which then stands behind it; none where there is no more.
-fn next_line<'a>(
+pub(crate) fn next_line<'a>(
     cluster: &Cluster,
     pins: &[Option<Pin>],
     table: &Table,
@@ -125,29 +123,6 @@ fn next_line<'a>(
         }
     }
     None
-}
-
-/// The next target line from a place on, which then stands behind it; none where there is no more. It takes no memory.
-///
-/// It asks for a cluster within the limits, and that the id of a rule that holds a leaf back is a name.
-pub fn next_target_line<'a>(
-    cluster: &Cluster,
-    placed: &'a Placed,
-    place: &mut LinePlace,
-) -> Option<RunLineRef<'a>>
-    requires limits { KeepsLimits cluster.now }
-    requires named { (r : ℕ) (id : List ℕ) → slice_get placed.now.none r ≡ Some (Some (Held id)) → is_name id ≡ true }
-    ensures line { MatchOption result (lines_from cluster.now placed.now place.old ≡ [])
-        (λ line. lines_from cluster.now placed.now place.old ≡ lent_line line ∷ lines_from cluster.now placed.now place.new) }
-    ensures named { IfSome result HasName }
-{
-    next_line(
-        cluster,
-        placed.pins.as_slice(),
-        &placed.table,
-        placed.none.as_slice(),
-        place,
-    )
 }
 
 /// The target lines of all leaves, in their order. It asks for a cluster within the limits. `NoMemory` comes when memory runs out.

@@ -75,8 +75,16 @@ impl Source for Pieces<'_> {
     }
 }
 
-/// The run of these pieces is written whole, in so many writes, and nothing is held back while a piece is asked for.
-fn check_pieces(rt: &impl Abort, alloc: Global, pieces: &[Piece], writes: usize) {
+/// How a run ends, what is written by then, and in how many writes.
+#[derive(Drop)]
+struct Wanted {
+    status: Status,
+    text: &'static str,
+    writes: usize,
+}
+
+/// The run of these pieces ends so, and nothing is held back while a piece is asked for.
+fn check_pieces(rt: &impl Abort, alloc: Global, pieces: &[Piece], wanted: &Wanted) {
     let bytes = Cell::new(0);
     let count = Cell::new(0);
     let mut source = Pieces {
@@ -95,9 +103,29 @@ fn check_pieces(rt: &impl Abort, alloc: Global, pieces: &[Piece], writes: usize)
     let mut words = Vec::new(alloc);
     words.push(word).expect(rt, "memory");
     let status = run(alloc, &words, &mut source, &mut sink);
-    assert!(rt; status == Status::Done && sink.inner.bytes() == RUN.as_bytes());
-    assert!(rt; source.agrees && count.get() == writes);
+    assert!(rt; status == wanted.status && sink.inner.bytes() == wanted.text.as_bytes());
+    assert!(rt; source.agrees && count.get() == wanted.writes);
 }
+
+/// A run that the second result line cuts.
+const CUT: &str = "\
+transition 1
+target vip n1 started
+begin 1 probe vip n1
+begin 2 probe vip n2
+end 1 7
+unexpected 11
+";
+
+/// A run that asks for a second result line which is none.
+const REFUSED: &str = "\
+transition 1
+target vip n1 started
+begin 1 probe vip n1
+begin 2 probe vip n2
+end 1 7
+refused 11 BadValue
+";
 
 /// What is written when the answers of both probes are known.
 const START: usize = PROBES.len() + "end 1 7\nend 2 7\nbegin 3 start vip n1\n".len();
@@ -112,7 +140,12 @@ fn each_line_is_written_before_its_answer_is_waited_for(rt: HostRuntime) {
         ("# a comment\n", START),
         ("end 3 0\n", START),
     ];
-    check_pieces(&rt, rt.alloc(), &pieces, 4);
+    let whole = Wanted {
+        status: Status::Done,
+        text: RUN,
+        writes: 4,
+    };
+    check_pieces(&rt, rt.alloc(), &pieces, &whole);
 }
 
 #[test]
@@ -122,5 +155,29 @@ fn lines_leave_together_where_answers_are_at_hand(rt: HostRuntime) {
         ("%results\n", 0),
         ("end 1 7\nend 2 7\nend 3 0\n", PROBES.len()),
     ];
-    check_pieces(&rt, rt.alloc(), &pieces, 2);
+    let whole = Wanted {
+        status: Status::Done,
+        text: RUN,
+        writes: 2,
+    };
+    check_pieces(&rt, rt.alloc(), &pieces, &whole);
+}
+
+/// Result lines of which the second ends the run, how it ends then, and what is written.
+const CUTS: &[(&str, Status, &str)] = &[
+    ("end 1 7\nend 4 0\n", Status::Unexpected, CUT),
+    ("end 1 7\nend 2 x\n", Status::Refused, REFUSED),
+];
+
+#[test]
+fn the_last_line_of_a_run_that_is_cut_leaves_with_those_held_before(rt: HostRuntime) {
+    for (results, status, text) in CUTS {
+        let pieces = [(HEAD, 0), ("%results\n", 0), (*results, PROBES.len())];
+        let cut = Wanted {
+            status: *status,
+            text: *text,
+            writes: 2,
+        };
+        check_pieces(&rt, rt.alloc(), &pieces, &cut);
+    }
 }

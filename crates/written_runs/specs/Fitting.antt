@@ -9,7 +9,7 @@ use Rattle.cluster_types.specs.declared.run.RunLine.{RunLine}
 use Rattle.cluster_types.specs.declared.run.RunLine.TheVariants as line
 use Rattle.input_reading.specs.ResultFields.{AnswerFieldsFit}
 
--- the interval of each monitor has 32 bits
+-- the interval of each monitor fits 32 bits
 abbrev pub IntervalsFit : Cluster → Type 0
 IntervalsFit c = (leaf : Leaf) (m : MonitorOf) → Contains c.leaves leaf → Contains leaf.monitors m → m.interval_ms < 2 ^ 32
 

@@ -1,4 +1,4 @@
--- What the lines of a run tell by themselves, and what is promised of them: for who reads the lines, and no definition of a run (rules of this project).
+-- What the lines of a run tell by themselves, and what is promised of them: for whoever reads the lines, and no definition of a run (rules of this project).
 use Rattle.std.specs.Prelude.{◌≡◌, ◌≢◌, ℕ, ◌<◌, ⊤, length, Bool, true, false, Option, IfSome, List, [], ◌∷◌, ◌++◌, Contains}
 use Rattle.cluster_types.specs.declared.cluster.Cluster.{Cluster}
 use Rattle.cluster_types.specs.declared.journal.Action.{Action}
@@ -21,8 +21,8 @@ use Rattle.cluster_types.specs.Precedence.{CellOf, gives_role, op_cell}
 use Rattle.cluster_types.specs.Runs.{RunStanding, due, Runs, journal_at}
 use Rattle.cluster_types.specs.Safety.{count_of_others, may_have_role}
 
--- after a journal some lines tell what happened, so that it is then this: a line `begin` tells that its action begins, and that of an answer what the answer
--- adds, by what is in flight. The other lines tell of plans, and nothing that happened
+-- from this journal on some lines tell what happened, up to that later journal: a line `begin` tells that its action begins, and a line
+-- of an answer what the answer adds, by what is in flight. The other lines tell of plans, and nothing that happened
 abbrev pub LinesTell : Cluster → List Event → List RunLine → List Event → Type 0
 LinesTell c es [] later = later ≡ es
 LinesTell c es (line.Begin k a ∷ lines) later = LinesTell c (es ++ Begin k a ∷ []) lines later
@@ -36,7 +36,7 @@ BeforeEachBegin holds lines = (before after : List RunLine) (k : ℕ) (a : Actio
 
 -- by a first journal and the lines behind it
 module _ (c : Cluster) (first : List Event) where
-  -- what is so by the journal that some lines tell
+  -- this holds of the journal that some lines tell
   pub record IsToldBy (lines : List RunLine) (Holds : List Event → Type 0) : Type 0 where
     pub journal : List Event
     pub told : LinesTell c first lines journal
@@ -61,7 +61,7 @@ module _ (c : Cluster) (first : List Event) where
   HasItsLeafAlone (MigrateFrom r source to) es = (m : ℕ) → m < length c.nodes → m ≢ source → m ≢ to → may_be_running c r m es ≡ false
   HasItsLeafAlone _ es = ⊤
 
-  -- what is promised before a line `begin` of an action
+  -- what is promised before a line `begin` of an action, by the one journal that the lines before it tell
   pub record IsSafeBegin (before : List RunLine) (a : Action) : Type 0 where
     pub start : IfSome (op_cell op.Start a) (λ at. IsToldBy before (MayRunOnFewOthers at))
     pub promote : IfSome (op_cell op.Promote a) (λ at. IsToldBy before (MayRunOnFewOthers at))

@@ -12,26 +12,23 @@ use Rattle.crm_parse.specs.declared.words.ActionWord.{ActionWord}
 use Rattle.crm_parse.specs.declared.words.ActionWord.TheVariants.{Start}
 use Rattle.crm_parse.specs.Grammar.Configurations.{StatementIs, StatementsAre, a_form, an_order, next_statement, no_statement}
 use Rattle.crm_parse.specs.Grammar.OrderForm.{ActionsAre, next_step, no_step}
-use Rattle.crm_parse.specs.Inner.StepActions.{action_after, with_actions}
+use Rattle.crm_parse.specs.OrderActions.{action_after, with_actions}
 use Rattle.crm_parse.specs.Reading.{Words}
 use Rattle.crm_parse.specs.Statements.{crm_of, promotable_by, statement_of}
-use Rattle.crm_parse.proofs.OrderRead.{actions-front}
 
 module _ (promotable : Words) where
-  actions-are : (before : ActionWord) (steps : List StepDraft) → ActionsAre promotable before steps (with_actions promotable before [] steps)
+  actions-are : (before : ActionWord) (steps : List StepDraft) → ActionsAre promotable before steps (with_actions promotable before steps)
   actions-are before [] = no_step before
   actions-are before (step ∷ steps) =
       let action = action_after promotable before step in
-      let one : OrderStep = record { resource = step.resource; action = action } in
-      subst (ActionsAre promotable before (step ∷ steps)) (sym (actions-front promotable action (one ∷ []) steps))
-      (next_step before action step steps (with_actions promotable action [] steps) refl (actions-are action steps))
+      next_step before action step steps (with_actions promotable action steps) refl (actions-are action steps)
 
-  actions-is : (before : ActionWord) (steps : List StepDraft) (all : List OrderStep) → ActionsAre promotable before steps all → all ≡ with_actions promotable before [] steps
+  actions-is : (before : ActionWord) (steps : List StepDraft) (all : List OrderStep) → ActionsAre promotable before steps all → all ≡ with_actions promotable before steps
   actions-is b ss all (no_step before) = refl
   actions-is b ss all (next_step before action step steps others e a) =
       let one : OrderStep = record { resource = step.resource; action = action } in
-      ap (λ os. one ∷ os) (actions-is action steps others a) ∙ (sym (actions-front promotable action (one ∷ []) steps)
-      ∙ ap (λ x. with_actions promotable x (record { resource = step.resource; action = x } ∷ []) steps) e)
+      ap (λ os. one ∷ os) (actions-is action steps others a)
+      ∙ ap (λ x. record { resource = step.resource; action = x } ∷ with_actions promotable x steps) e
 
   statement-is : (said : DraftStatement) (statement : Statement) → StatementIs promotable said statement → statement ≡ statement_of promotable said
   statement-is d s (a_form line f) = refl

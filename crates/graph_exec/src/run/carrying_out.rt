@@ -1,6 +1,7 @@
 //! A transition of a run, carried out and closed.
 
-ghost use Rattle.std.specs.Prelude.{◌≡◌, [], true, IfOk, IfErr};
+ghost use Rattle.std.specs.Prelude.{◌≡◌, [], true, false, IfOk, IfErr};
+ghost use Rattle.cluster_io.specs.Streams.{Rose};
 ghost use Rattle.cluster_types.specs.Runs.{amid};
 ghost use Rattle.cluster_types.specs.Safety.{IsAtRest};
 ghost use Rattle.graph_exec.specs.Lasting.{SourceLasts, WatcherLasts};
@@ -53,6 +54,7 @@ pub(crate) fn carry_out<'c, S: Outcomes, V: Watcher>(
     ensures fitting { S.careful outcomes.old ≡ true → S.agrees outcomes.old executor.entry.cluster executor.entry.planned_at 0 → IfErr result IsReplayExpected }
 
     ensures source { SourceLasts S.Outcomes outcomes.old outcomes.new (part_word result) }
+    ensures answer { IfOk result (λ closed. closed.complete ≡ false → Rose (S.answered outcomes.old) (S.answered outcomes.new)) }
     ensures watcher { WatcherLasts V.Watcher watcher.old watcher.new (part_heard result) }
     ensures quiet { IfErr result (IsQuietInFault (S.broke outcomes.new) (V.quiet watcher.new)) }
     ensures shown { V.shown watcher.old Heard.Go

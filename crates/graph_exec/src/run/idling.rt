@@ -1,6 +1,7 @@
 //! An answer that comes while nothing is to be done.
 
 ghost use Rattle.std.specs.Prelude.{◌≡◌, ◌⊎◌, ◌+◌, [], true, IfOk, IfErr};
+ghost use Rattle.cluster_io.specs.Streams.{Rose};
 ghost use Rattle.cluster_types.specs.Journals.{in_flight_by_begin};
 ghost use Rattle.cluster_types.specs.Runs.{due, idle};
 ghost use Rattle.graph_exec.specs.Inner.Keeping.{IsAnswered, IsUnanswered};
@@ -44,6 +45,7 @@ pub(crate) fn ask_idle<'c, S: Outcomes, V: Watcher>(
         → IfErr result IsReplayExpected }
 
     ensures source { SourceLasts S.Outcomes outcomes.old outcomes.new (part_word result) }
+    ensures answer { IfOk result (λ _. Rose (S.answered outcomes.old) (S.answered outcomes.new)) }
     ensures quiet { IfErr result (IsQuietInFault (S.broke outcomes.new) (V.quiet watcher.now)) }
 {
     let Ok(resting) = Resting::new(alloc, journal) else {
@@ -96,6 +98,7 @@ pub(crate) fn take_idle<'c, S: Outcomes, V: Watcher>(
     ensures fitting { S.careful outcomes.old ≡ true → S.agrees outcomes.old journal.entry.cluster journal.entry.events 0 → IfErr result IsReplayExpected }
 
     ensures source { SourceLasts S.Outcomes outcomes.old outcomes.new (part_word result) }
+    ensures answer { IfOk result (λ _. Rose (S.answered outcomes.old) (S.answered outcomes.new)) }
     ensures watcher { WatcherLasts V.Watcher watcher.old watcher.new (part_heard result) }
     ensures quiet { IfErr result (IsQuietInFault (S.broke outcomes.new) (V.quiet watcher.new)) }
     ensures shown { V.shown watcher.old Heard.Go (view_between journal.entry.cluster journal.entry.promotions journal.entry.events)

@@ -1,9 +1,9 @@
 //! A source that says the answers of a list, and fails now and then.
 
-ghost use Rattle.std.specs.Prelude.{◌≡◌, ◌≢◌, ◌↔◌, ◌<◌, ◌≤◌, ◌^◌, true, false, Some, length, Contains};
-ghost use Rattle.cluster_io.specs.Memory.{next_call};
+ghost use Rattle.std.specs.Prelude.{◌≡◌, ◌≢◌, ◌↔◌, ◌<◌, ◌≤◌, ◌+◌, ◌^◌, true, false, Some, length, Contains};
 ghost use Rattle.cluster_io.specs.Streams.{next_fault};
-ghost use Rattle.graph_exec.specs.Saying.{GivesNext};
+ghost use Rattle.graph_exec.specs.Counts.{RoseByOne};
+ghost use Rattle.graph_exec.specs.Saying.{GivesNext, taken_by};
 
 use crate::transition::flight::InFlight;
 use crate::transition::outcomes::{Next, Outcomes};
@@ -16,8 +16,8 @@ use std::marker::Model;
 #[derive(Drop)]
 pub struct Failing {
     script: Script,
-    fails: Vec<u32>,
-    calls: u32,
+    fails: Vec<u64>,
+    calls: u64,
     faults: u64,
 }
 
@@ -26,14 +26,14 @@ impl Model for Failing {
 
     ghost Value = { FailingOf };
 
-    ghost view = { λ s. record { left = s.script.left; fails = s.fails.items; calls = s.calls; faults = s.faults } };
+    ghost view = { λ s. record { left = s.script.left; taken = s.script.taken; fails = s.fails.items; calls = s.calls; faults = s.faults } };
 }
 
 impl Failing {
     /// A source of these answers, fewer than 2^32, that fails at these calls.
-    pub fn new(answers: Vec<Answer>, fails: Vec<u32>) -> Failing
+    pub fn new(answers: Vec<Answer>, fails: Vec<u64>) -> Failing
         requires { length answers.items < 2 ^ 32 }
-        ensures { result ≡ record { left = answers.items; fails = fails.items; calls = 0; faults = 0 } }
+        ensures { result ≡ record { left = answers.items; taken = 0; fails = fails.items; calls = 0; faults = 0 } }
     {
         Failing {
             script: Script::new(answers),
@@ -52,6 +52,8 @@ impl Outcomes for Failing {
     ghost faults = { λ s. s.faults };
 
     ghost asked = { λ s. s.calls };
+
+    ghost answered = { λ s. s.taken };
 
     ghost careful = { λ _. false };
 
@@ -87,11 +89,12 @@ impl Outcomes for Failing {
 
     fn next(&mut self, flight: &InFlight) -> Next
         ensures gives { GivesNext true (Some self.old.left) (Some self.new.left) result }
+        ensures taken { self.new.taken ≡ self.old.taken + taken_by result }
         ensures count { self.old.faults ≤ self.new.faults }
         ensures fails { (result ≡ Next.Failed) ↔ Contains self.old.fails self.new.calls }
         ensures counted { result ≡ Next.Failed → self.new.faults ≡ next_fault self.old.faults }
         ensures others { result ≢ Next.Failed → self.new.faults ≡ self.old.faults }
-        ensures calls { self.new.calls ≡ next_call self.old.calls }
+        ensures calls { RoseByOne self.old.calls self.new.calls }
         ensures fails_stay { self.new.fails ≡ self.old.fails }
     {
         self.calls = self.calls.saturating_add(1);

@@ -1,6 +1,6 @@
 //! Where the answers come from.
 
-ghost use Rattle.std.specs.Prelude.{◌≡◌, ◌≢◌, ◌≤◌, ◌+◌, ◌++◌, ◌∷◌, [], ℕ, Bool, true, Option, List};
+ghost use Rattle.std.specs.Prelude.{◌≡◌, ◌≢◌, ◌≤◌, ◌++◌, ◌∷◌, [], ℕ, Bool, true, Option, List};
 ghost use Rattle.cluster_io.specs.Streams.{Rose};
 ghost use Rattle.cluster_types.specs.declared.cluster.Cluster.{Cluster as ClusterOf};
 ghost use Rattle.cluster_types.specs.declared.journal.Answer.{Answer as AnswerOf};
@@ -10,6 +10,7 @@ ghost use Rattle.cluster_types.specs.Journals.{AreInFlightByNumber};
 ghost use Rattle.graph_exec.specs.Flights.{pairs_in_flight};
 ghost use Rattle.graph_exec.specs.declared.transition.outcomes.Next.{Next as NextOf};
 ghost use Rattle.graph_exec.specs.declared.transition.outcomes.Next.TheVariants as says;
+ghost use Rattle.graph_exec.specs.Counts.{CountsAnswer, RoseByOne};
 ghost use Rattle.graph_exec.specs.Saying.{AgreesAfter, GivesNext, IsFitting, IsOverBy};
 
 use crate::transition::flight::InFlight;
@@ -36,8 +37,11 @@ pub trait Outcomes {
     /// How often the source has failed. The count stands still at the end of 64 bits.
     ghost faults: { Self → ℕ };
 
-    /// How often it was asked, as far as it counts: a question raises it by one at most.
+    /// How often it was asked. The count stands still at the end of 64 bits.
     ghost asked: { Self → ℕ };
+
+    /// How many answers it has given. The count stands still at the end of 64 bits.
+    ghost answered: { Self → ℕ };
 
     /// Whether each of its answers applies.
     ghost careful: { Self → Bool };
@@ -69,6 +73,7 @@ pub trait Outcomes {
         ensures whole { whole self.new ≡ whole self.old }
         ensures count { faults self.old ≤ faults self.new }
         ensures asked { asked self.new ≡ asked self.old }
+        ensures answered { answered self.new ≡ answered self.old }
         ensures careful { careful self.new ≡ careful self.old }
         ensures steady { steady self.new ≡ steady self.old }
         ensures over { over self.new ≡ over self.old }
@@ -86,7 +91,8 @@ pub trait Outcomes {
         ensures count { faults self.old ≤ faults self.new }
         ensures cause { result ≡ Next.Failed → Rose (faults self.old) (faults self.new) }
         ensures at_hand { at_hand self.old → result ≡ Next.Failed → ¬ broke self.new }
-        ensures asked { asked self.new ≤ asked self.old + 1 }
+        ensures asked { RoseByOne (asked self.old) (asked self.new) }
+        ensures answered { CountsAnswer result (answered self.old) (answered self.new) }
         ensures careful { careful self.new ≡ careful self.old }
         ensures steady { steady self.new ≡ steady self.old }
         ensures over { IsOverBy (steady self.old) (over self.old) (over self.new) result }

@@ -1,6 +1,7 @@
 //! A transition over a source of outcomes, to its end.
 
 ghost use Rattle.std.specs.Prelude.{◌≡◌, ◌≤◌, ◌+◌, true, length};
+ghost use Rattle.graph_exec.specs.Counts.{IsAbortAnswered};
 ghost use Rattle.graph_exec.specs.Lasting.{SourceLasts, WatcherLasts, transition_word};
 ghost use Rattle.graph_exec.specs.Promises.{EndsWell, KeepsPromises};
 ghost use Rattle.graph_exec.specs.Transitions.{Accords, EndsAs, GoneTo, HasSaidAll, IsExpected};
@@ -29,6 +30,7 @@ pub fn run_watched<S: Outcomes, V: Watcher>(
     // What became of the source.
     ensures source { SourceLasts S.Outcomes outcomes.old outcomes.new (transition_word result) }
     ensures asked { S.asked outcomes.new ≤ S.asked outcomes.old + (length executor.old.graph.actions + 257) }
+    ensures aborted { IsAbortAnswered executor.old executor.new (S.answered outcomes.old) (S.answered outcomes.new) }
     ensures said { S.steady outcomes.old ≡ true
         → HasSaidAll executor.old executor.new (S.rest outcomes.old) (S.rest outcomes.new) (S.over outcomes.old) (S.over outcomes.new) result }
     ensures agrees { Accords (S.agrees outcomes.old) executor.old → Accords (S.agrees outcomes.new) executor.new }
@@ -64,6 +66,7 @@ pub fn run_transition<S: Outcomes>(executor: &mut Executor<'_>, outcomes: &mut S
 
     ensures source { SourceLasts S.Outcomes outcomes.old outcomes.new (transition_word (watched result)) }
     ensures asked { S.asked outcomes.new ≤ S.asked outcomes.old + (length executor.old.graph.actions + 257) }
+    ensures aborted { IsAbortAnswered executor.old executor.new (S.answered outcomes.old) (S.answered outcomes.new) }
     ensures said { S.steady outcomes.old ≡ true
         → HasSaidAll executor.old executor.new (S.rest outcomes.old) (S.rest outcomes.new) (S.over outcomes.old) (S.over outcomes.new) (watched result) }
     ensures agrees { Accords (S.agrees outcomes.old) executor.old → Accords (S.agrees outcomes.new) executor.new }

@@ -2,6 +2,7 @@
 
 ghost use Rattle.std.specs.Prelude.{◌≡◌, ◌⊎◌, ◌<◌, ◌≤◌, ◌+◌, [], true, false, None, IfSome, IfNone, IfOk, IfErr, OnOk, unwrap_or};
 ghost use Rattle.cluster_types.specs.Steps.{IsWaiting, is_settled};
+ghost use Rattle.graph_exec.specs.Counts.{IsAbortAnswered};
 ghost use Rattle.graph_exec.specs.Lasting.{SourceLasts, WatcherLasts, none_failed};
 ghost use Rattle.graph_exec.specs.Inner.Rounds.{Advanced, Answered, StopsAs, asked_word, asks_left, begins_left, round_word};
 ghost use Rattle.graph_exec.specs.Running.{IsUnderWay, Went, going};
@@ -46,6 +47,7 @@ impl<'c> Executor<'c> {
 
         ensures source { SourceLasts S.Outcomes outcomes.old outcomes.new none_failed }
         ensures asked { S.asked outcomes.new ≡ S.asked outcomes.old }
+        ensures aborted { IsAbortAnswered self.old self.new (S.answered outcomes.old) (S.answered outcomes.new) }
         ensures agrees { Accords (S.agrees outcomes.old) self.old → Accords (S.agrees outcomes.new) self.new }
 
         ensures told { Hears (V.follows watcher.old watcher.new) (V.stopped watcher.old watcher.new) (S.whole outcomes.old) self.old self.new
@@ -75,6 +77,7 @@ impl<'c> Executor<'c> {
 
         ensures source { SourceLasts S.Outcomes outcomes.old outcomes.new none_failed }
         ensures asked { S.asked outcomes.new ≡ S.asked outcomes.old }
+        ensures aborted { IsAbortAnswered self.old self.new (S.answered outcomes.old) (S.answered outcomes.new) }
         ensures agrees { Accords (S.agrees outcomes.old) self.old → Accords (S.agrees outcomes.new) self.new }
 
         ensures told { Hears (V.follows watcher.old watcher.new) (V.stopped watcher.old watcher.new) (S.whole outcomes.old) self.old self.new
@@ -107,6 +110,7 @@ impl<'c> Executor<'c> {
         ensures under_way { IsUnderWay self.new }
         ensures source { SourceLasts S.Outcomes outcomes.old outcomes.new (asked_word result) }
         ensures asked { S.asked outcomes.new ≤ S.asked outcomes.old + 1 }
+        ensures aborted { IsAbortAnswered self.old self.new (S.answered outcomes.old) (S.answered outcomes.new) }
         ensures agrees { Accords (S.agrees outcomes.old) self.old → Accords (S.agrees outcomes.new) self.new }
         ensures said { S.steady outcomes.old ≡ true → S.over outcomes.new ≡ false
             → OnOk result (WentAsSaid self.old self.new (S.rest outcomes.old) (S.rest outcomes.new)) }
@@ -142,6 +146,7 @@ impl<'c> Executor<'c> {
 
         ensures source { SourceLasts S.Outcomes outcomes.old outcomes.new (round_word result) }
         ensures asked { S.asked outcomes.new ≤ S.asked outcomes.old + 1 }
+        ensures aborted { IsAbortAnswered self.old self.new (S.answered outcomes.old) (S.answered outcomes.new) }
         ensures agrees { Accords (S.agrees outcomes.old) self.old → Accords (S.agrees outcomes.new) self.new }
         ensures said { S.steady outcomes.old ≡ true → S.over outcomes.new ≡ false
             → IfNone result (WentAsSaid self.old self.new (S.rest outcomes.old) (S.rest outcomes.new)) }

@@ -1,6 +1,7 @@
 //! A source that says the answers of a list.
 
 ghost use Rattle.std.specs.Prelude.{◌≡◌, ◌≢◌, ◌+◌, ◌<◌, ◌^◌, true, false, Some, length, slice_get};
+ghost use Rattle.graph_exec.specs.Counts.{RoseByOne};
 ghost use Rattle.graph_exec.specs.Saying.{GivesNext, taken_by};
 
 use crate::transition::flight::InFlight;
@@ -13,6 +14,8 @@ use std::marker::Model;
 pub struct Script {
     answers: Vec<Answer>,
     taken: u32,
+    /// How often it was asked.
+    asked: u64,
 }
 
 impl Model for Script {
@@ -21,7 +24,7 @@ impl Model for Script {
 
     ghost Value = { ScriptOf };
 
-    ghost view = { λ s. record { left = drop s.taken s.answers.items; taken = s.taken } };
+    ghost view = { λ s. record { left = drop s.taken s.answers.items; taken = s.taken; asked = s.asked } };
 
     ghost invariant = { λ s. (s.taken ≤ length s.answers.items) × (length s.answers.items < 2 ^ 32) };
 }
@@ -39,9 +42,13 @@ impl Script {
     /// A source of these answers, fewer than 2^32.
     pub fn new(answers: Vec<Answer>) -> Script
         requires { length answers.items < 2 ^ 32 }
-        ensures { result ≡ record { left = answers.items; taken = 0 } }
+        ensures { result ≡ record { left = answers.items; taken = 0; asked = 0 } }
     {
-        Script { answers, taken: 0 }
+        Script {
+            answers,
+            taken: 0,
+            asked: 0,
+        }
     }
 
     /// How many answers were taken.
@@ -59,7 +66,9 @@ impl Outcomes for Script {
 
     ghost faults = { λ _. 0 };
 
-    ghost asked = { λ s. s.taken };
+    ghost asked = { λ s. s.asked };
+
+    ghost answered = { λ s. s.taken };
 
     ghost careful = { λ _. false };
 
@@ -96,8 +105,10 @@ impl Outcomes for Script {
     fn next(&mut self, _flight: &InFlight) -> Next
         ensures gives { GivesNext true (Some self.old.left) (Some self.new.left) result }
         ensures taken { self.new.taken ≡ self.old.taken + taken_by result }
+        ensures asked { RoseByOne self.old.asked self.new.asked }
         ensures never { result ≢ Next.Failed }
     {
+        self.asked = self.asked.saturating_add(1);
         let Some(answer) = answer_at(self.answers.as_slice(), self.taken) else {
             return Next::Silent;
         };

@@ -14,7 +14,7 @@ use Rattle.input_reading.specs.declared.history_fault.StatusCause.{StatusCause}
 use Rattle.input_reading.specs.declared.history_fault.StatusCause.TheVariants as of_status
 use Rattle.input_reading.specs.declared.results.result_lines.ResultLine.{ResultLine}
 use Rattle.input_reading.specs.declared.run.text.RunTextLine.{RunTextLine}
-use Rattle.input_reading.specs.declared.status.told.Told.{Told}
+use Rattle.input_reading.specs.declared.status.line_meaning.Told.{Told}
 use Rattle.input_reading.specs.declared.words.word_cause.WordCause.{WordCause}
 use Rattle.input_reading.specs.FirstJournal.{is_repeated, journal_of}
 use Rattle.input_reading.specs.Grammar.ResultForms.{ResultSays}
@@ -50,7 +50,8 @@ pub record StatusLineSays (c : Cluster) (before : List Told) (line : Line) (told
   pub says : StatusSays c line.words told
   pub once : is_repeated before told ≡ false
 
--- no form has the words of a line of a status, with any cause of words; or the line says again what may be said once
+-- no form has the words of a line of a status (which cause of words that is, isn't told here); or the line says again what
+-- may be said once
 pub data StatusLineRefused (c : Cluster) (before : List Told) (line : Line) : StatusCause → Type 0 where
   no_status_form : (cause : WordCause) → ((told : Told) → StatusSays c line.words told → ⊥) → StatusLineRefused c before line (of_status.Form cause)
   said_before : (told : Told) → StatusSays c line.words told → is_repeated before told ≡ true → StatusLineRefused c before line of_status.Repeated
@@ -69,13 +70,13 @@ pub record IsResultAnswer (c : Cluster) (moment before : ℕ) (words : List (Lis
   pub few : before < most_results
   pub says : ResultSays c moment words given
 
--- no form has the words of a result line, with any cause of words; or the line is behind too many others
+-- no form has the words of a result line (which cause of words that is, isn't told here); or the line is behind too many others
 pub data IsNoAnswer (c : Cluster) (moment before : ℕ) (words : List (List ℕ)) : ResultCause → Type 0 where
   no_result_form : (cause : WordCause) → before < most_results → ((given : Answer) → ResultSays c moment words given → ⊥)
       → IsNoAnswer c moment before words (of_result.Form cause)
   too_many_before : most_results ≤ before → IsNoAnswer c moment before words of_result.TooManyResults
 
--- the line of this number is refused so
+-- the same of a line with its number, as one call is asked about one line
 abbrev pub IsNoAnswerOn : Cluster → ℕ → ℕ → ℕ → List (List ℕ) → ℕ → ResultCause → Type 0
 IsNoAnswerOn c moment before line words number cause = (line ≡ number) × IsNoAnswer c moment before words cause
 
@@ -98,7 +99,7 @@ pub record RunLineSays (c : Cluster) (before : List RunTextLine) (line : Line) (
   pub place : read.line ≡ line.line
   pub says : RunSays c line.words read.what
 
--- no form has the words of a line of a run; with any cause of words
+-- no form has the words of a line of a run (which cause of words that is, isn't told here)
 abbrev pub RunLineRefused : Cluster → List RunTextLine → Line → WordCause → Type 0
 RunLineRefused c before line cause = (what : RunLine) → RunSays c line.words what → ⊥
 

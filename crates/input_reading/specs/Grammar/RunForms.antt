@@ -56,10 +56,10 @@ pub data ActionSays (c : Cluster) : List (List ℕ) → Action → Type 0 where
       → ActionSays c (word ∷ leaf_name ∷ name ∷ []) (Operation op leaf node 0 role.Started)
   monitor_form : (leaf_name name number : List ℕ) (leaf node interval : ℕ) → NamesLeaf c leaf_name leaf → NamesNode c name node → WritesPositive number interval
       → ActionSays c (codes "monitor" ∷ leaf_name ∷ name ∷ number ∷ []) (monitor_action c leaf node interval)
-  migrate_to_form : (leaf_name from to : List ℕ) (leaf source goal : ℕ) → NamesLeaf c leaf_name leaf → NamesNode c from source → NamesNode c to goal
-      → ActionSays c (codes "migrate_to" ∷ leaf_name ∷ from ∷ to ∷ []) (MigrateTo leaf source goal)
-  migrate_from_form : (leaf_name from to : List ℕ) (leaf source goal : ℕ) → NamesLeaf c leaf_name leaf → NamesNode c from source → NamesNode c to goal
-      → ActionSays c (codes "migrate_from" ∷ leaf_name ∷ from ∷ to ∷ []) (MigrateFrom leaf source goal)
+  migrate_to_form : (leaf_name from to : List ℕ) (leaf source destination : ℕ) → NamesLeaf c leaf_name leaf → NamesNode c from source → NamesNode c to destination
+      → ActionSays c (codes "migrate_to" ∷ leaf_name ∷ from ∷ to ∷ []) (MigrateTo leaf source destination)
+  migrate_from_form : (leaf_name from to : List ℕ) (leaf source destination : ℕ) → NamesLeaf c leaf_name leaf → NamesNode c from source → NamesNode c to destination
+      → ActionSays c (codes "migrate_from" ∷ leaf_name ∷ from ∷ to ∷ []) (MigrateFrom leaf source destination)
 
 -- what the words of a line of a run say of a cluster. An answer is said as by a result line at the moment 0: the waits of a run
 -- aren't added up

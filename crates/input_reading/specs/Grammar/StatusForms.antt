@@ -12,10 +12,10 @@ use Rattle.cluster_types.specs.declared.leaf.Op.TheVariants.{Start, Stop, Promot
 use Rattle.cluster_types.specs.declared.leaf.Role.TheVariants.{Started}
 use Rattle.cluster_types.specs.Answering.{monitor_action}
 use Rattle.cluster_types.specs.Fields.{is_promotable}
-use Rattle.input_reading.specs.declared.status.told.NodeWord.{NodeWord}
-use Rattle.input_reading.specs.declared.status.told.NodeWord.TheVariants.{Online, Offline, Unclean}
-use Rattle.input_reading.specs.declared.status.told.Told.{Told}
-use Rattle.input_reading.specs.declared.status.told.Told.TheVariants.{Now, Quorum, Node, Past, Promoting}
+use Rattle.input_reading.specs.declared.status.line_meaning.NodeWord.{NodeWord}
+use Rattle.input_reading.specs.declared.status.line_meaning.NodeWord.TheVariants.{Online, Offline, Unclean}
+use Rattle.input_reading.specs.declared.status.line_meaning.Told.{Told}
+use Rattle.input_reading.specs.declared.status.line_meaning.Told.TheVariants.{Now, Quorum, Node, Past, Promoting}
 use Rattle.input_reading.specs.Grammar.WordValues.{NamesLeaf, NamesNode, SaysWhether, WritesCode, WritesNumber, WritesPositive, WritesSeconds}
 
 -- the state of a node
@@ -46,7 +46,7 @@ pub data SaysOutcome : List ℕ → Outcome → Type 0 where
 -- what the words of a line of a status say of a cluster
 pub data StatusSays (c : Cluster) : List (List ℕ) → Told → Type 0 where
   now_form : (number : List ℕ) (seconds : ℕ) → WritesSeconds number seconds → StatusSays c (codes "now" ∷ number ∷ []) (Now seconds)
-  quorum_form : (word : List ℕ) (now : Bool) → SaysWhether word now → StatusSays c (codes "quorum" ∷ word ∷ []) (Quorum now)
+  quorum_form : (word : List ℕ) (yes : Bool) → SaysWhether word yes → StatusSays c (codes "quorum" ∷ word ∷ []) (Quorum yes)
   node_form : (name word : List ℕ) (node : ℕ) (state : NodeWord) → NamesNode c name node → SaysState word state
       → StatusSays c (codes "node" ∷ name ∷ word ∷ []) (Node node state)
   op_form : (name leaf_name op ms code number : List ℕ) (node leaf : ℕ) (action : Action) (outcome : Outcome) (moment : ℕ)

@@ -84,7 +84,8 @@ StartIsSaid text head = IsHeadSaid sections_of (λ head lines. Unit {0}) text he
 abbrev pub IsStartRefused : List ℕ → ℕ → InputCause → Type 0
 IsStartRefused text = IsHeadRefused sections_of text
 
--- and of a text with a trace: behind the status stand the lines of a run (their place is kept as that of results)
+-- and of a text with a trace: behind the status stand the lines of a run (their place is kept as that of results). Of the number behind the last line, which a
+-- trace has too, nothing is said here; trace_of says it
 abbrev pub TraceIsSaid : List ℕ → Trace → Type 0
 TraceIsSaid text trace = IsHeadSaid sections_with_trace (λ head lines. RunIsSaid head.cluster lines trace.run.lines) text trace.head
 

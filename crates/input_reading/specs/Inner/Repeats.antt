@@ -1,8 +1,8 @@
 -- What a status may tell once, found by hashing (a rule of this project).
 use Rattle.std.specs.Prelude.{◌≡◌, ℕ, nat_eq, ◌==◌, ◌&&◌, ◌||◌, Bool, false, List}
 use Rattle.std.specs.HashSet.{contains}
-use Rattle.input_reading.specs.declared.status.told.Told.{Told}
-use Rattle.input_reading.specs.declared.status.told.Told.TheVariants.{Now, Quorum, Node, Past, Promoting}
+use Rattle.input_reading.specs.declared.status.line_meaning.Told.{Told}
+use Rattle.input_reading.specs.declared.status.line_meaning.Told.TheVariants.{Now, Quorum, Node, Past, Promoting}
 use Rattle.input_reading.specs.declared.status.told_keys.ToldKeys.{ToldKeys}
 use Rattle.input_reading.specs.FirstJournal.{is_again, is_repeated}
 

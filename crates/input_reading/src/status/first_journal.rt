@@ -7,7 +7,7 @@ ghost use Rattle.cluster_types.specs.Valid.{KeepsLimits};
 ghost use Rattle.cluster_types.specs.declared.journal.Event.TheVariants as event;
 ghost use Rattle.input_reading.specs.FirstJournal.{events_of, first_said, history_of, journal_of, leavings, now_of, promotion_in, quorum_of, word_as, word_in};
 
-use crate::status::told::{NodeWord, Told};
+use crate::status::line_meaning::{NodeWord, Told};
 use cluster_types::{Cluster, Event, Journal, NodeId, Promotion};
 use faults::{NoMemory, done};
 use listed::Listed;

@@ -7,7 +7,7 @@ ghost use Rattle.faults.specs.Digits.{number_up_to};
 ghost use Rattle.input_reading.specs.FirstJournal.{is_known};
 ghost use Rattle.input_reading.specs.Status.{history_action, cleanup_line, fitting, interval_as, interval_at, may_have, node_line, node_word, now_line, op_at, op_line, outcome_at, outcome_of, promotable, promotable_at, promotion_line, quorum_line, score_at, state_at, status_word, told_as, told_of};
 
-use crate::status::told::{NodeWord, Told};
+use crate::status::line_meaning::{NodeWord, Told};
 use crate::words::op_words::op_named;
 use crate::{
     WordCause, Words, code_of, end_at, interval_of, leaf_at, node_at, seconds_at, word_at, yes_at,

@@ -1,10 +1,10 @@
 //! What the lines of a status told that may be told once.
 
 ghost use Rattle.std.specs.Prelude.{◌≡◌, false, OnOk};
-ghost use Rattle.input_reading.specs.declared.status.told.Told.{Told as ToldOf};
+ghost use Rattle.input_reading.specs.declared.status.line_meaning.Told.{Told as ToldOf};
 ghost use Rattle.input_reading.specs.Inner.Repeats.{has_told, AddsKey};
 
-use crate::status::told::Told;
+use crate::status::line_meaning::Told;
 use cluster_types::{LeafId, NodeId};
 use faults::NoMemory;
 use std::alloc::Global;

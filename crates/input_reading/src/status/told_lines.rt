@@ -3,7 +3,7 @@
 ghost use Rattle.std.specs.Prelude.{◌≡◌, ◌++◌, ◌∷◌, [], IfOk};
 ghost use Rattle.input_reading.specs.FirstJournal.{is_repeated};
 
-use crate::status::told::Told;
+use crate::status::line_meaning::Told;
 use crate::status::told_keys::ToldKeys;
 use faults::NoMemory;
 use listed::Listed;
@@ -19,7 +19,7 @@ pub(crate) struct ToldLines {
 
 impl Model for ToldLines {
     ghost use Rattle.std.specs.Prelude.{List};
-    ghost use Rattle.input_reading.specs.declared.status.told.Told.{Told};
+    ghost use Rattle.input_reading.specs.declared.status.line_meaning.Told.{Told};
     ghost use Rattle.input_reading.specs.Inner.Repeats.{HasToldKeysOf};
 
     ghost Value = { List Told };

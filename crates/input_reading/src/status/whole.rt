@@ -9,8 +9,8 @@ ghost use Rattle.input_reading.specs.FirstJournal.{all_differ, is_known, is_repe
 ghost use Rattle.input_reading.specs.Grammar.LinesSaid.{AsLinesSay, IsStatusRefused, StatusIsSaid};
 
 use crate::status::first_journal::journal_of;
+use crate::status::line_meaning::Told;
 use crate::status::status_lines::told_of;
-use crate::status::told::Told;
 use crate::status::told_lines::ToldLines;
 use crate::{StatusCause, StatusFault};
 use cluster_types::Journal;

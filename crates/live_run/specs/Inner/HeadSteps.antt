@@ -4,6 +4,7 @@ use Rattle.cluster_io.specs.Readings.{Reading}
 use Rattle.crm_lex.specs.declared.fault.LexCause.{LexCause}
 use Rattle.faults.specs.declared.fault.Fault.{Fault}
 use Rattle.faults.specs.declared.fault.Fault.TheVariants.{At, NoMemory}
+use Rattle.input_reading.specs.declared.input.cause.InputCause.TheVariants.{Words}
 use Rattle.live_run.specs.declared.head.HeadStop.{HeadStop}
 use Rattle.live_run.specs.declared.head.HeadStop.TheVariants as stop
 use Rattle.live_run.specs.Heads.{HeadVerdict, head_behind, ReaderProgress, taken, refused, too_large}
@@ -34,7 +35,7 @@ WhileWell _ P = P
 
 -- why a line stops the reading that can't be cut into words. A line is cut without memory, so that the second case never comes
 abbrev pub stop_for : Fault LexCause → HeadStop
-stop_for (At line why) = stop.Refused line why
+stop_for (At line why) = stop.Refused line (Words why)
 stop_for NoMemory = stop.TooLarge
 
 -- reading goes on, or the source failed

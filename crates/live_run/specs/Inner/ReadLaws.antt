@@ -9,8 +9,8 @@ use Rattle.live_run.specs.Coming.{Coming, Lines}
 use Rattle.live_run.specs.Followed.{AreNear, NoneOrLastSays, LastLineSays, HasRead, IsStoppedBy, bytes_of, count_said, results_first, said_by}
 use Rattle.run_safety.specs.Followed.{IsFront}
 use Rattle.live_run.specs.Inner.ReadSteps.{HasPassed, ReadUntil}
-use Rattle.live_run.specs.declared.came.Came.{Came}
-use Rattle.live_run.specs.declared.came.Came.TheVariants as came
+use Rattle.live_run.specs.declared.line_result.Came.{Came}
+use Rattle.live_run.specs.declared.line_result.Came.TheVariants as came
 use Rattle.live_run.specs.declared.line_stop.LineStop.{LineStop}
 use Rattle.input_reading.specs.declared.results.result_lines.ResultLine.{ResultLine}
 

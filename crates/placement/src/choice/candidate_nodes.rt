@@ -5,7 +5,7 @@ ghost use Rattle.cluster_types.specs.Tables.{targets_of};
 ghost use Rattle.score.specs.NodeSet.{has};
 ghost use Rattle.placement.specs.Reads as spec;
 
-use crate::choice::known::Known;
+use crate::choice::inputs::Known;
 use crate::choice::permitting::open_nodes;
 use crate::colocations::allowing::allowed_nodes;
 use cluster_types::{Decision, Table};

@@ -11,7 +11,7 @@ ghost use Rattle.placement.specs.Steps.{Chooses, Tell};
 use crate::choice::candidate_nodes::candidate_nodes;
 use crate::choice::caps::cap_of;
 use crate::choice::choosing::choose;
-use crate::choice::known::Known;
+use crate::choice::inputs::Known;
 use crate::choice::loaded_table::LoadedTable;
 use crate::choice::totalling::totals_on;
 use cluster_types::{Decision, NoMemory};

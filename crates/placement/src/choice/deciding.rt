@@ -16,7 +16,7 @@ ghost use Rattle.placement.specs.Scores.{scores_of};
 
 use crate::ScoreTable;
 use crate::choice::chosen_nodes::chosen_nodes;
-use crate::choice::known::Known;
+use crate::choice::inputs::Known;
 use crate::choice::loaded_table::LoadedTable;
 use cluster_types::{Cluster, Decided, Decision, NoMemory, States, Table, Target};
 use listed::Listed;

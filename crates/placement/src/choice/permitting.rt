@@ -8,7 +8,7 @@ ghost use Rattle.placement.specs.Reads as spec;
 ghost use Rattle.placement.specs.Usable.{is_usable_by};
 
 use crate::choice::cells::{active_count, is_kept};
-use crate::choice::known::Known;
+use crate::choice::inputs::Known;
 use cluster_types::{Decision, LeafId, NodeId, Role, Table};
 use score::NodeSet;
 

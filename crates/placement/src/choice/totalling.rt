@@ -6,7 +6,7 @@ ghost use Rattle.cluster_types.specs.Tables.{targets_of};
 ghost use Rattle.placement.specs.Reads as spec;
 ghost use Rattle.score.specs.Total.{total_of};
 
-use crate::choice::known::Known;
+use crate::choice::inputs::Known;
 use crate::colocations::preferring::preferences;
 use cluster_types::{Decision, NoMemory, Table};
 use score::{Score, total};

@@ -6,7 +6,7 @@ ghost use Rattle.placement.specs.declared.held.dependencies.Dependency.{Dependen
 ghost use Rattle.placement.specs.Inner.Taking as spec;
 
 use crate::held::dependencies::{Dependency, is_anywhere};
-use crate::held::left::Left;
+use crate::held::targets_left::Left;
 use cluster_types::{NodeId, Table};
 
 /// Whether the dependency takes its dependent's role away from the node, if it is known whether its primary holds its own on any node.

@@ -7,8 +7,8 @@ ghost use Rattle.placement.specs.declared.held.dependencies.Dependency.{Dependen
 ghost use Rattle.placement.specs.Inner.Taking as spec;
 
 use crate::held::dependencies::Dependency;
-use crate::held::left::Left;
 use crate::held::passes::after;
+use crate::held::targets_left::Left;
 use cluster_types::{LeafId, Table};
 use std::alloc::{AllocError, Global};
 

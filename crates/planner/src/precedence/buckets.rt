@@ -5,8 +5,8 @@ ghost use Rattle.planner.specs.Chains as spec;
 ghost use Rattle.planner.specs.Chains.{AreBuckets};
 
 use crate::precedence::index::add_place;
+use crate::precedence::inputs::Known;
 use crate::precedence::keys::{Key, change_key};
-use crate::precedence::known::Known;
 use cluster_types::{Action, NodeId};
 use listed::{Listed, empty_lists};
 use std::alloc::{AllocError, Global};

@@ -11,7 +11,7 @@ ghost use Rattle.planner.specs.Rooms.{Builds};
 
 use crate::precedence::edge_building::Building;
 use crate::precedence::index::places_in;
-use crate::precedence::known::Known;
+use crate::precedence::inputs::Known;
 use crate::precedence::sides::{Join, Side};
 use cluster_types::{Colocation, LeafId};
 use std::alloc::{AllocError, Global};

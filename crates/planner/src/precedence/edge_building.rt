@@ -10,7 +10,7 @@ ghost use Rattle.planner.specs.Rooms as rooms;
 ghost use Rattle.planner.specs.Rooms.{Builds};
 
 use crate::precedence::gates::add_join;
-use crate::precedence::known::Known;
+use crate::precedence::inputs::Known;
 use crate::precedence::sides::{Join, Side};
 use cluster_types::{Cluster, Edge};
 use faults::done;

@@ -5,8 +5,8 @@ ghost use Rattle.planner.specs.Gates.{edge, edge_in, edge_out, gate_edges_at, ga
 ghost use Rattle.planner.specs.Inner.Leaves as leaves;
 ghost use Rattle.planner.specs.Rooms.{GatesHaveRoom};
 
+use crate::precedence::inputs::Known;
 use crate::precedence::keys::{Key, key_of};
-use crate::precedence::known::Known;
 use crate::precedence::sides::{Join, Side};
 use cluster_types::{Action, Edge, LeafId};
 use listed::flag_at;

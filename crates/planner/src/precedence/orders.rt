@@ -10,7 +10,7 @@ ghost use Rattle.planner.specs.Rooms.{Builds};
 
 use crate::precedence::colocations::add_rule;
 use crate::precedence::edge_building::Building;
-use crate::precedence::known::Known;
+use crate::precedence::inputs::Known;
 use crate::precedence::sides::{Join, Side};
 use cluster_types::{Order, OrderKind};
 use std::alloc::{AllocError, Global};

@@ -13,7 +13,7 @@ ghost use Rattle.planner.specs.Rooms.{Builds};
 
 use crate::precedence::colocations::add_colocation;
 use crate::precedence::edge_building::Building;
-use crate::precedence::known::Known;
+use crate::precedence::inputs::Known;
 use crate::precedence::orders::add_order;
 use crate::precedence::serials::add_serial;
 use std::alloc::{AllocError, Global};

@@ -7,7 +7,7 @@ ghost use Rattle.planner.specs.Inner.Groups.{AddsGroup};
 use crate::precedence::buckets::node_buckets;
 use crate::precedence::chains::{Changes, add_chain};
 use crate::precedence::edge_building::Building;
-use crate::precedence::known::Known;
+use crate::precedence::inputs::Known;
 use cluster_types::{Action, NodeId, Order};
 use listed::Listed;
 use std::alloc::{AllocError, Global};

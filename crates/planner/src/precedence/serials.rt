@@ -9,7 +9,7 @@ ghost use Rattle.planner.specs.Inner.Serials.{AreAscending, AreSerials, most_ser
 
 use crate::precedence::edge_building::Building;
 use crate::precedence::index::places_in;
-use crate::precedence::known::Known;
+use crate::precedence::inputs::Known;
 use crate::precedence::orders::is_serialize;
 use crate::precedence::serialize::add_chains;
 use cluster_types::{LeafId, Order};

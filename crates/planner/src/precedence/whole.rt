@@ -12,7 +12,7 @@ ghost use Rattle.planner.specs.Rooms.{Builds, IsActionWithin};
 
 use crate::precedence::edge_building::{Building, first_edges};
 use crate::precedence::index::leaf_index;
-use crate::precedence::known::Known;
+use crate::precedence::inputs::Known;
 use crate::precedence::migrating::migrating_flags;
 use crate::precedence::rules::{add_colocations, add_orders, add_serials};
 use cluster_types::{Action, Cluster, Edges, NoMemory};

@@ -4,13 +4,10 @@ use Rattle.cluster_io.specs.Readings.{Reading}
 use Rattle.cluster_io.specs.Streams.{Adds, AddsPrefix}
 use Rattle.live_run.specs.Heads as heads
 use Rattle.live_run.specs.declared.head.HeadStop.{HeadStop}
-use Rattle.live_run.specs.declared.head.HeadStop.TheVariants as found
+use Rattle.live_run.specs.declared.head.HeadStop.TheVariants as stop
 use Rattle.live_run.specs.declared.live_end.LiveEnd.{LiveEnd}
 use Rattle.live_run.specs.declared.live_end.LiveEnd.TheVariants as end
-use Rattle.sim_core.specs.declared.beginning.HeadEnd.{HeadEnd}
-use Rattle.sim_core.specs.declared.beginning.HeadEnd.TheVariants as stop
 use Rattle.input_reading.specs.declared.input.cause.InputCause.{InputCause}
-use Rattle.input_reading.specs.declared.input.cause.InputCause.TheVariants.{Words}
 use Rattle.input_reading.specs.declared.input.reading.Head.{Head}
 use Rattle.sim_core.specs.declared.status.Status.{Status}
 use Rattle.sim_core.specs.declared.status.Status.TheVariants.{Done, NoMemory, ReadFault, WriteFault, Refused, Unexpected, TooLarge}
@@ -34,18 +31,11 @@ pub record IsBehind (input : List ℕ) (head : Head) (reading : Reading) (left :
   pub longest : reading.longest ≡ longest_line
 
 -- why the run isn't begun
-abbrev pub StopsBy : List ℕ → Option (List ℕ) → HeadEnd → Type 0
+abbrev pub StopsBy : List ℕ → Option (List ℕ) → HeadStop → Type 0
 StopsBy input left (stop.Refused line why) = IsHeadFault input line why
 StopsBy input left stop.TooLarge = head_in input ≡ heads.too_large
 StopsBy input left stop.ReadFault = IsAmidHead input left
 StopsBy input left stop.NoMemory = Unit {0}
-
--- why the run isn't begun, by why the head isn't read
-abbrev pub head_end_of : HeadStop → HeadEnd
-head_end_of (found.Refused line why) = stop.Refused line (Words why)
-head_end_of found.TooLarge = stop.TooLarge
-head_end_of found.ReadFault = stop.ReadFault
-head_end_of found.NoMemory = stop.NoMemory
 
 -- what was written of a fault of the head
 abbrev pub WritesFault : ℕ → InputCause → Option (List ℕ) → Option (List ℕ) → Status → Type 0

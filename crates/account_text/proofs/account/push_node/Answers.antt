@@ -4,7 +4,7 @@ use Rattle.cluster_types.specs.Decisions.{leaf_of}
 use Rattle.cluster_types.specs.Tables.{targets_of}
 use Rattle.cluster_types.specs.Texts.{leaf_on, score_line}
 use Rattle.decision_account.specs.Accounts.{verdict_text}
-use Rattle.placement.specs.declared.choice.known.Known.{Known}
+use Rattle.placement.specs.declared.choice.inputs.Known.{Known}
 use Rattle.account_text.specs.Inner.Asked.{verdict_asked}
 use Rattle.account_text.specs.Inner.Sides.{preference_part}
 use Rattle.account_text.specs.Inner.Told.{base_parts_by, parts_text}

@@ -4,8 +4,6 @@ use Rattle.cluster_types.specs.declared.run.RunLine.{RunLine}
 use Rattle.cluster_types.specs.declared.run.RunLine.TheVariants as line
 use Rattle.graph_exec.specs.Telling.{plan_lines}
 use Rattle.trace_text.specs.RunLines.{lent_line}
-use Rattle.trace_text.specs.TargetWalk.{lines_from}
-use Rattle.trace_text.proofs.WalkOn.{lines_first}
 use Rattle.live_run.proofs.Written.{failed_first, put_all, put_failed, put_first, put_more}
 use Rattle.live_run.proofs.run_writing.put_plan.Goals as goal
 
@@ -20,7 +18,7 @@ pub loop-line-init : goal.loop-line-init
 loop-line-init g c = record {
   put = put_first c.args.cluster.now (plan_lines c.args.cluster.now c.args.transition c.args.placed.now) c.args.held.now c.put.new.held (g.W.Sink.written c.args.sink.now)
       (g.W.Sink.written c.put.new.sink) (line.Transition c.args.transition) _
-      (ap (λ (ls : List RunLine). line.Transition c.args.transition ∷ ls) (sym (lines_first c.args.cluster.now c.args.placed.now))) c.in_ok-put.ensures.text;
+      (ap (λ (ls : List RunLine). line.Transition c.args.transition ∷ ls) (sym c.new-lines.ensures)) c.in_ok-put.ensures.text;
   count = c.put.ensures.bears.count;
   no_failure = λ exact. c.in_ok-put.ensures.bears.no_failure exact (λ failed. cc);
 }
@@ -32,7 +30,7 @@ loop-line-preserved g c =
     record {
       put = put_more c.args.cluster.now (plan_lines c.args.cluster.now c.args.transition c.args.placed.now) c.args.held.now c.put-in-Some.new.held (g.W.Sink.written c.args.sink.now)
           (g.W.Sink.written c.put-in-Some.new.sink) c.loop-line.held (g.W.Sink.written c.loop-line.sink)
-          (lines_from c.args.cluster.now c.args.placed.now c.loop-line.place) (lines_from c.args.cluster.now c.args.placed.now c.next_target_line.new.place)
+          c.loop-line.lines c.next.new.self
           (lent_line c.in-Some.line) c.in-Some.ensures.line c.loop-line.invariant.put c.in_ok-put-2.ensures.text;
       count = omega (arith, before, now);
       no_failure = λ exact. c.in_ok-put-2.ensures.bears.no_failure exact (λ failed. cc) ∙ c.loop-line.invariant.no_failure exact;
@@ -41,7 +39,7 @@ loop-line-preserved g c =
 pub returns-clause-lines : goal.returns-clause-lines
 returns-clause-lines g c =
     put_all c.args.cluster.now (plan_lines c.args.cluster.now c.args.transition c.args.placed.now) c.args.held.now c.loop-line.held (g.W.Sink.written c.args.sink.now)
-    (g.W.Sink.written c.loop-line.sink) (lines_from c.args.cluster.now c.args.placed.now c.loop-line.place) c.in_default.ensures.line c.loop-line.invariant.put
+    (g.W.Sink.written c.loop-line.sink) c.loop-line.lines c.in_default.ensures.line c.loop-line.invariant.put
 
 pub returns-in_err-put-2-clause-lines : goal.returns-in_err-put-2-clause-lines
 returns-in_err-put-2-clause-lines g c =
@@ -49,5 +47,5 @@ returns-in_err-put-2-clause-lines g c =
     rw p.1
     (put_failed c.args.cluster.now (plan_lines c.args.cluster.now c.args.transition c.args.placed.now) c.args.held.now c.put-in-Some.new.held (g.W.Sink.written c.args.sink.now)
     (g.W.Sink.written c.put-in-Some.new.sink) c.loop-line.held (g.W.Sink.written c.loop-line.sink)
-    (lines_from c.args.cluster.now c.args.placed.now c.loop-line.place) (lines_from c.args.cluster.now c.args.placed.now c.next_target_line.new.place)
+    c.loop-line.lines c.next.new.self
     (lent_line c.in-Some.line) c.in-Some.ensures.line c.loop-line.invariant.put c.in_err-put-2.ensures.text)

@@ -7,4 +7,4 @@ pub returns-clause-text : goal.returns-clause-text
 returns-clause-text g c =
     let text : c.as_slice.result.now ≡ line_refusal_text c.args.line c.args.cause = c.as_slice.ensures.text ∙ (c.write_refusal.ensures
     ∙ ap (λ (name : List ℕ). codes "refused " ++ decimal c.args.line ++ codes " " ++ name ++ codes "\n") c.name.ensures) in
-    goes_all c.flush.result _ _ _ _ _ _ (rw text at c.in_ok-push.ensures.text) c.flush.ensures.text
+    goes_all c.flush.result _ _ _ _ _ _ (rw text at c.in_ok-push.ensures.text) c.flush.ensures.text c.flush.ensures.few

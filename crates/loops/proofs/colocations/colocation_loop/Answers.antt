@@ -1,4 +1,4 @@
-use Rattle.std.proofs.Common.{◌≡◌, ◌*◌, length, ◌∙◌}
+use Rattle.std.proofs.Common.{◌≡◌, ◌∙◌}
 use Rattle.edges.specs.Loops.{ClosesFirst, HasNoLoop}
 use Rattle.loops.specs.Inner.Edges.{need_edges}
 use Rattle.loops.proofs.NeedLoops.{behind_leaves, closes_needs, needs_free, needs_within}

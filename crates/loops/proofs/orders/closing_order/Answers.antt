@@ -1,4 +1,4 @@
-use Rattle.std.proofs.Common.{◌≡◌, ◌*◌, length, ◌∙◌}
+use Rattle.std.proofs.Common.{◌≡◌, ◌∙◌}
 use Rattle.edges.specs.Loops.{ClosesFirst, HasNoLoop}
 use Rattle.loops.specs.Inner.Edges.{step_edges}
 use Rattle.loops.proofs.FirstOrders.{first_order}

@@ -6,7 +6,7 @@ use Rattle.sim_core.proofs.beginning.begin.Goals as goal
 
 pub returns-in-Err-clause-stopped : goal.returns-in-Err-clause-stopped
 returns-in-Err-clause-stopped g c =
-    rw c.head_end.ensures (stops _ _ _ _ c.in-Err.stop c.requires c.in-Err.ensures.stop c.in-Err.ensures.amid)
+    stops _ _ _ _ c.in-Err.stop c.requires c.in-Err.ensures.stop c.in-Err.ensures.amid
 
 pub read_start-requires : goal.read_start-requires
 read_start-requires g c =

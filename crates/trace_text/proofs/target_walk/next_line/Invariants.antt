@@ -1,6 +1,6 @@
 use Rattle.std.proofs.Common.{◌≡◌}
 use Rattle.cluster_types.specs.Tables.{targets_of}
-use Rattle.trace_text.specs.TargetWalk.{places_left, target_lines_from}
+use Rattle.trace_text.specs.Inner.TargetWalk.{places_left, target_lines_from}
 use Rattle.trace_text.proofs.target_walk.next_line.Given as goal
 
 abbrev pub invariant-loop-place : goal.invariant-loop-place

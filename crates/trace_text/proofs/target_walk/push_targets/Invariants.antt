@@ -2,7 +2,7 @@ use Rattle.std.proofs.Common.{◌≡◌, ◌++◌, length}
 use Rattle.std.specs.List.{flat_map}
 use Rattle.cluster_types.specs.Tables.{targets_of}
 use Rattle.cluster_types.specs.Texts.{run_line, target_lines}
-use Rattle.trace_text.specs.TargetWalk.{target_lines_from}
+use Rattle.trace_text.specs.Inner.TargetWalk.{target_lines_from}
 use Rattle.trace_text.proofs.target_walk.push_targets.Given as goal
 
 abbrev pub invariant-loop-line : goal.invariant-loop-line

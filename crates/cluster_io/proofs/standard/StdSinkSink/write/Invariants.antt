@@ -8,6 +8,7 @@ invariant-loop-interrupted g l = record {
   faults : l.self.faults ≡ l.fn.self.faults;
   kept : Keeps (g.W.Write.contents l.fn.self.calls.writer) (g.W.Write.contents l.self.calls.writer);
   failures : l.self.calls.failures ≡ l.fn.self.calls.failures;
+  answers : l.self.calls.answers ≡ l.fn.self.calls.answers;
   interruptions : min (l.fn.self.calls.interruptions + l.interrupted) (2 ^ 64 - 1) ≤ l.self.calls.interruptions;
   few : l.self.calls.interruptions ≤ l.fn.self.calls.interruptions + l.interrupted;
 }

@@ -9,6 +9,7 @@ invariant-loop-interrupted g l = record {
   going : l.self.ended ≡ false;
   kept : Keeps (g.R.Read.remaining l.fn.self.calls.reader) (g.R.Read.remaining l.self.calls.reader);
   failures : l.self.calls.failures ≡ l.fn.self.calls.failures;
+  answers : l.self.calls.answers ≡ l.fn.self.calls.answers;
   interruptions : min (l.fn.self.calls.interruptions + l.interrupted) (2 ^ 64 - 1) ≤ l.self.calls.interruptions;
   few : l.self.calls.interruptions ≤ l.fn.self.calls.interruptions + l.interrupted;
 }

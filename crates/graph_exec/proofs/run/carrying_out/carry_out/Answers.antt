@@ -1,7 +1,9 @@
-use Rattle.std.proofs.Common.{ap, inl, refl, ◌∙◌}
+use Rattle.std.proofs.Common.{Some, ap, inl, refl, ◌∙◌}
 use Rattle.graph_exec.specs.declared.transition.watcher.Heard.TheVariants as heard
+use Rattle.cluster_types.specs.Steps.{aborts}
 use Rattle.graph_exec.specs.Logs.{JournalOf}
 use Rattle.graph_exec.specs.Running.{Running}
+use Rattle.graph_exec.proofs.Beginning.{found_so}
 use Rattle.graph_exec.proofs.Closings.{broken, closes_aborted, closes_complete, cut, stops_aborted, stops_complete, stops_either}
 use Rattle.graph_exec.proofs.Lasts.{watcher_then, watcher_told}
 use Rattle.graph_exec.proofs.Rests.{accords_first, accords_last, leaves_rest, stays_there}
@@ -71,6 +73,11 @@ returns-in-Stop-closed-clause-agrees_at_end g c h =
     accords_last (g.S.Outcomes.agrees c.run_watched.new.outcomes) (λ d es k a. g.met.S.Outcomes.anew c.run_watched.new.outcomes d es k a) c.args.executor c.run_watched.new.executor
     (stays_there _ _ _ _ _ c.in-Aborted.ensures.steps) (c.run_watched.ensures.agrees (accords_first _ _ c.requires.planned.planned.at_rest.1 c.requires.fresh h)) _
     (ap events_in c.into_journal-in-Stop-closed.ensures)
+
+pub returns-in-Go-closed-clause-answer : goal.returns-in-Go-closed-clause-answer
+returns-in-Go-closed-clause-answer g c aborted =
+    let end = c.in-Aborted.ensures.end in
+    c.in-Aborted.ensures.aborted.given (rw c.requires.fresh refl) (found_so (aborts c.run_watched.new.executor.cluster) c.run_watched.new.executor.since (Some c.in-Aborted.field-0) end.first_is)
 
 -- an answer came that doesn't apply
 

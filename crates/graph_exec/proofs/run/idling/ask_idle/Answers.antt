@@ -28,14 +28,17 @@ pub returns-in-Ok-take-clause-source : goal.returns-in-Ok-take-clause-source
 returns-in-Ok-take-clause-source g c =
     let says = c.in-Answer.ensures in
     source_on g.S.Outcomes _ _ g.met.S.Outcomes.from_said _ (λ e. cc)
-    (source_asked g.S.Outcomes _ _ _ says.whole says.count says.cause says.careful says.steady says.over says.said)
+    (source_asked g.S.Outcomes _ _ _ says.whole says.count says.cause says.answered says.careful says.steady says.over says.said)
+
+pub returns-in-Ok-take-clause-answer : goal.returns-in-Ok-take-clause-answer
+returns-in-Ok-take-clause-answer g c = c.in-Answer.ensures.answered.rose
 
 -- it doesn't apply
 
 pub returns-in-Err-clause-source : goal.returns-in-Err-clause-source
 returns-in-Err-clause-source g c =
     let says = c.in-Answer.ensures in
-    rw c.in-Err.ensures.answer (source_asked g.S.Outcomes _ _ _ says.whole says.count says.cause says.careful says.steady says.over says.said)
+    rw c.in-Err.ensures.answer (source_asked g.S.Outcomes _ _ _ says.whole says.count says.cause says.answered says.careful says.steady says.over says.said)
 
 pub returns-in-Err-clause-unanswered : goal.returns-in-Err-clause-unanswered
 returns-in-Err-clause-unanswered g c =
@@ -59,14 +62,14 @@ returns-in-Silent-clause-unanswered g c =
 pub returns-in-Silent-clause-source : goal.returns-in-Silent-clause-source
 returns-in-Silent-clause-source g c =
     let says = c.in-Silent.ensures in
-    source_asked g.S.Outcomes _ _ _ says.whole says.count says.cause says.careful says.steady says.over says.said
+    source_asked g.S.Outcomes _ _ _ says.whole says.count says.cause says.answered says.careful says.steady says.over says.said
 
 -- the source fails
 
 pub returns-in-Failed-clause-source : goal.returns-in-Failed-clause-source
 returns-in-Failed-clause-source g c =
     let says = c.in-Failed.ensures in
-    source_asked g.S.Outcomes _ _ _ says.whole says.count says.cause says.careful says.steady says.over says.said
+    source_asked g.S.Outcomes _ _ _ says.whole says.count says.cause says.answered says.careful says.steady says.over says.said
 
 pub returns-in-Failed-clause-unanswered : goal.returns-in-Failed-clause-unanswered
 returns-in-Failed-clause-unanswered g c =

@@ -2,7 +2,7 @@ use Rattle.std.proofs.Common.{◌∙◌, inl, refl}
 use Rattle.graph_exec.specs.declared.transition.watcher.Heard.TheVariants as heard
 use Rattle.graph_exec.specs.Replays.{setting, sight}
 use Rattle.graph_exec.proofs.Joined.{lacks_memory}
-use Rattle.graph_exec.proofs.Lasts.{source_same, source_then, watcher_same, watcher_then, watcher_told}
+use Rattle.graph_exec.proofs.Lasts.{rose_since, source_same, source_then, watcher_same, watcher_then, watcher_told}
 use Rattle.graph_exec.proofs.Ready.{came_begun, comes_behind, ends_behind, has_plan, same_cluster, same_promotions, starts_fresh, stops_begun}
 use Rattle.graph_exec.proofs.Served.{serves_again}
 use Rattle.graph_exec.proofs.Shown.{end_behind, shown_behind, shown_end, shown_planned, shown_stopped, shown_there}
@@ -133,6 +133,15 @@ returns-in-Err-with-clause-watcher g c =
     (watcher_then g.V.Watcher _ _ _ _ (watcher_told g.V.Watcher _ _ heard.Go told.same_lines told.count told.cause)
     (rw c.in-Ok-with.ensures.1 at c.carry_out-carried.ensures.watcher))
     (rw c.in-Err-with.ensures at c.take_idle-taken.ensures.watcher)
+
+-- an answer was given: it aborted the transition, or came behind it
+
+pub returns-then-not-closed-clause-answer : goal.returns-then-not-closed-clause-answer
+returns-then-not-closed-clause-answer g c = (rw c.in-Ok-with.ensures.1 at c.carry_out-carried.ensures.answer) c.if-not-closed.true
+
+pub returns-clause-answer : goal.returns-clause-answer
+returns-clause-answer g c =
+    rose_since _ _ _ c.carry_out-carried.ensures.source.answered (rw c.in-Ok-with-2.ensures.1 at c.take_idle-taken.ensures.answer)
 
 -- the plan serves again
 

@@ -1,5 +1,6 @@
 use Rattle.std.proofs.Common.{arith, ◌≡◌, ap, refl, ◌∙◌}
 use Rattle.run_safety.proofs.SafeRuns.{safe_run}
+use Rattle.graph_exec.proofs.Aborting.{none_answered, not_most, one_more_answered}
 use Rattle.graph_exec.proofs.Lasts.{source_same, source_then, watcher_same, watcher_then}
 use Rattle.graph_exec.proofs.Ready.{comes_behind, ends_behind}
 use Rattle.graph_exec.proofs.Whole.{events_in, kept, kept_due, nothing_made, replays, rests, starts, up_to}
@@ -26,6 +27,7 @@ loop-made-init g c = record {
   came = starts _ (g.met.V.Watcher.from_itself _) _ _ _ _ _ _ _ c.in-Ok.ensures.ok;
   serves = tt;
   source = source_same g.S.Outcomes g.met.S.Outcomes.from_itself _;
+  answers = none_answered _;
   agrees = λ h. rw c.in-Ok.ensures.ok h;
   watcher = watcher_same g.V.Watcher _;
   shown = λ h. rw c.in-Ok.ensures.ok h;
@@ -53,6 +55,7 @@ loop-made-preserved g c =
           (λ steady h. now.source.over (so_far.source.steady ∙ steady) h) (rw (so_far.source.whole, so_far.source.steady) at now.goes_on);
       serves = rw so_far.came.cluster_stays at now.serves;
       source = source_then g.S.Outcomes g.met.S.Outcomes.from_before g.met.S.Outcomes.said_later _ _ _ _ so_far.source now.source;
+      answers = one_more_answered _ _ _ _ so_far.answers now.answer;
       agrees = λ h. rw so_far.came.cluster_stays at (now.agrees (rw so_far.came.cluster_stays (so_far.agrees h)));
       watcher = watcher_then g.V.Watcher _ _ _ _ so_far.watcher now.watcher;
       shown = λ h. rw (so_far.came.cluster_stays, so_far.came.promotions_stay) at
@@ -102,6 +105,9 @@ returns-in-Err-clause-shown g c h =
     rw (so_far.came.cluster_stays, so_far.came.promotions_stay) at
     (c.in-Err.ensures.shown_at_end (rw (so_far.came.cluster_stays, so_far.came.promotions_stay) (so_far.shown h)))
 
+pub returns-in-Err-clause-answers : goal.returns-in-Err-clause-answers
+returns-in-Err-clause-answers g c = not_most _ _ _ _ _ _ c.in-Err.ended _ _ _ c.in-Err.ensures.ends
+
 -- as many transitions were made as are allowed
 
 pub returns-clause-run : goal.returns-clause-run
@@ -124,3 +130,8 @@ returns-clause-agrees g c h = rw c.into_journal.ensures (c.loop-made.invariant.a
 
 pub returns-clause-shown : goal.returns-clause-shown
 returns-clause-shown g c h = rw c.into_journal.ensures (c.loop-made.invariant.shown h)
+
+pub returns-clause-answers : goal.returns-clause-answers
+returns-clause-answers g c =
+    let all : c.loop-made.made ≡ c.args.most = omega arith in
+    rw all at c.loop-made.invariant.answers

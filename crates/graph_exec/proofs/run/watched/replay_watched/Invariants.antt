@@ -1,6 +1,7 @@
 use Rattle.std.proofs.Common.{◌+◌, IfSome}
 use Rattle.cluster_types.specs.Runs.{due}
 use Rattle.graph_exec.specs.declared.transition.watcher.Heard.TheVariants as heard
+use Rattle.graph_exec.specs.Counts.{RoseBy}
 use Rattle.graph_exec.specs.Lasting.{SourceLasts, WatcherLasts, none_failed}
 use Rattle.graph_exec.specs.Replays.{setting, sight}
 use Rattle.graph_exec.specs.Telling.{view_between}
@@ -17,6 +18,7 @@ invariant-loop-made g l = record {
       (due (l.made + 1)) l.known;
   serves : IfSome l.last (Serves l.fn.cluster);
   source : SourceLasts g.S.Outcomes l.fn.outcomes l.outcomes none_failed;
+  answers : RoseBy l.made (g.S.Outcomes.answered l.fn.outcomes) (g.S.Outcomes.answered l.outcomes);
   agrees : g.S.Outcomes.agrees l.fn.outcomes l.fn.cluster l.fn.journal.events 0 → g.S.Outcomes.agrees l.outcomes l.fn.cluster l.known.events 0;
   watcher : WatcherLasts g.V.Watcher l.fn.watcher l.watcher heard.Go;
   shown : g.V.Watcher.shown l.fn.watcher heard.Go (view_between l.fn.cluster l.fn.journal.promotions l.fn.journal.events)

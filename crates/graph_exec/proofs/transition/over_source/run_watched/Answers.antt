@@ -2,6 +2,7 @@ use Rattle.std.proofs.Common.{arith, Some, ap, refl, sym, ◌∙◌}
 use Rattle.lemmas.proofs.Booleans.{fails_too}
 use Rattle.graph_exec.specs.declared.transition.watcher.Heard.TheVariants as heard
 use Rattle.graph_exec.specs.Watching.{IsShownAll}
+use Rattle.graph_exec.proofs.Aborting.{aborted_on, aborted_then, none_aborted}
 use Rattle.graph_exec.proofs.Carrying.{expected_done, gone_done, gone_further, has_ended_now, went_nowhere, went_on}
 use Rattle.graph_exec.proofs.Lasts.{source_done, source_same, source_then, watcher_done, watcher_same, watcher_then}
 use Rattle.graph_exec.proofs.Fewer.{asks_most}
@@ -15,6 +16,7 @@ pub loop-executor-init : goal.loop-executor-init
 loop-executor-init g c = record {
   went = went_nowhere _ _ _;
   asks = omega arith;
+  aborted = none_aborted _ _ _;
   source = source_same g.S.Outcomes g.met.S.Outcomes.from_itself _;
   said = λ steady h. said_nothing _ _;
   agrees = λ h. h;
@@ -42,6 +44,11 @@ returns-in-Stop-clause-asked g c =
     let so_far = c.loop-executor.invariant.asks in
     let now = c.begin_all.ensures.asked in
     omega arith
+
+pub returns-in-Stop-clause-aborted : goal.returns-in-Stop-clause-aborted
+returns-in-Stop-clause-aborted g c =
+    let so_far = c.loop-executor.invariant in
+    aborted_then _ _ _ _ _ _ so_far.source.answered c.begin_all.ensures.source.answered so_far.aborted c.begin_all.ensures.aborted
 
 pub returns-in-Stop-clause-said : goal.returns-in-Stop-clause-said
 returns-in-Stop-clause-said g c steady = stopped_said _ _ _ _ _ _
@@ -76,6 +83,11 @@ returns-then-count-eq0-clause-asked g c =
     let so_far = c.loop-executor.invariant.asks in
     let now = c.begin_all.ensures.asked in
     omega arith
+
+pub returns-then-count-eq0-clause-aborted : goal.returns-then-count-eq0-clause-aborted
+returns-then-count-eq0-clause-aborted g c =
+    let so_far = c.loop-executor.invariant in
+    aborted_then _ _ _ _ _ _ so_far.source.answered c.begin_all.ensures.source.answered so_far.aborted c.begin_all.ensures.aborted
 
 pub returns-then-count-eq0-clause-said : goal.returns-then-count-eq0-clause-said
 returns-then-count-eq0-clause-said g c steady =
@@ -124,6 +136,12 @@ returns-in-Some-clause-asked g c =
     let now = c.in-Some.ensures.asked in
     omega arith
 
+pub returns-in-Some-clause-aborted : goal.returns-in-Some-clause-aborted
+returns-in-Some-clause-aborted g c =
+    let so_far = c.loop-executor.invariant in
+    aborted_on _ _ _ _ _ _ _ _ so_far.source.answered c.begin_all.ensures.source.answered c.in-Some.ensures.source.answered so_far.aborted c.begin_all.ensures.aborted
+    c.in-Some.ensures.aborted
+
 pub returns-in-Some-clause-told : goal.returns-in-Some-clause-told
 returns-in-Some-clause-told g c =
     hears_on _ _ _ (g.met.V.Watcher.from_before _ _ _) _ _ (g.met.V.Watcher.stopped_later _ _ _) _ _ _ _ _ _ _ _
@@ -170,6 +188,7 @@ loop-executor-preserved g c =
       went = went_on _ _ _ _ _ _ _ so_far.went
           (went_on _ _ _ _ _ _ _ (rw so_far.source.whole at begun.went) (rw (begun.source.whole, so_far.source.whole) at asked.on.went));
       asks = omega arith;
+      aborted = aborted_on _ _ _ _ _ _ _ _ so_far.source.answered begun.source.answered asked.source.answered so_far.aborted begun.aborted asked.aborted;
       source = source_then g.S.Outcomes g.met.S.Outcomes.from_before g.met.S.Outcomes.said_later _ _ _ _ so_far.source
           (source_then g.S.Outcomes g.met.S.Outcomes.from_before g.met.S.Outcomes.said_later _ _ _ _ begun.source asked.source);
       said = λ steady open_still.

@@ -1,16 +1,15 @@
 use Rattle.std.proofs.Common.{◌≡◌, ◌≤◌, length}
 use Rattle.graph_exec.specs.Telling.{plan_lines}
-use Rattle.trace_text.specs.TargetWalk.{lines_from}
 use Rattle.sim_core.specs.Inner.Auditors.{audited_cluster}
 use Rattle.sim_core.proofs.Told.{HearsOn}
 use Rattle.sim_core.proofs.auditor.Auditor.hear_plan.Given as goal
 
 abbrev pub invariant-loop-line : goal.invariant-loop-line
 invariant-loop-line l = record {
-  hears : HearsOn l.fn.self l.self (plan_lines (audited_cluster l.fn.self) l.transition l.placed) (lines_from (audited_cluster l.self) l.placed l.place);
+  hears : HearsOn l.fn.self l.self (plan_lines (audited_cluster l.fn.self) l.transition l.placed) l.lines;
   cluster : audited_cluster l.self ≡ audited_cluster l.fn.self;
   count : l.fn.self.stops ≤ l.self.stops;
 }
 
 abbrev pub decreases-loop-line : goal.decreases-loop-line
-decreases-loop-line l = length (lines_from (audited_cluster l.self) l.placed l.place)
+decreases-loop-line l = length l.lines

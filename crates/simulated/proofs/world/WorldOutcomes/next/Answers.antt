@@ -1,11 +1,17 @@
-use Rattle.std.proofs.Common.{◌<◌, Some, None, refl, ◌∙◌, arith}
+use Rattle.std.proofs.Common.{◌<◌, Some, None, refl, sym, ◌∙◌, arith}
 use Rattle.cluster_types.specs.Sources.{untold}
 use Rattle.graph_exec.specs.Flights.{pairs_in_flight}
-use Rattle.simulated.proofs.Agreeing.{all_numbers, ended_agrees, ended_applies, joined_agrees, joined_applies, left_agrees, left_applies}
+use Rattle.simulated.proofs.Agreeing.{all_numbers, ended_agrees, ended_applies, joined_agrees, joined_applies, left_agrees, left_applies, silent_agrees}
 use Rattle.simulated.proofs.world.WorldOutcomes.next.Goals as goal
 
 pub returns-then-count-eq0-clause-gives : goal.returns-then-count-eq0-clause-gives
 returns-then-count-eq0-clause-gives c = untold None
+
+pub returns-then-count-eq0-clause-agrees : goal.returns-then-count-eq0-clause-agrees
+returns-then-count-eq0-clause-agrees c = λ d es taken a is.
+    let s = c.self.inside in
+    silent_agrees (record { reality = s.reality; since = s.since; asked = s.asked; answered = s.answered }) _ _ d es taken (pairs_in_flight c.args.flight.now) (rw (← c.self.view_is) at a)
+    (sym c.count-count.ensures ∙ c.if-count-eq0.true)
 
 pub returns-in-Leaves-clause-gives : goal.returns-in-Leaves-clause-gives
 returns-in-Leaves-clause-gives c = untold (Some c.leave.result)
@@ -16,7 +22,7 @@ returns-in-Leaves-clause-agrees c = λ d es taken a is.
     let flight = c.args.flight.now in
     let some : 0 < c.count-count.result = omega arith in
     rw c.leave.ensures.answer
-    (left_agrees (record { reality = s.reality; since = s.since }) d es taken (rw (← c.self.view_is) at a) (record { reality = c.leave.new.self; since = s.since })
+    (left_agrees (record { reality = s.reality; since = s.since; asked = s.asked; answered = s.answered }) d es taken (rw (← c.self.view_is) at a) (record { reality = c.leave.new.self; since = s.since; asked = _; answered = _ })
     (record {
       same = record { cluster = c.leave.ensures.same.cluster ∙ c.turn.ensures.same.cluster; number = c.leave.ensures.same.number ∙ c.turn.ensures.same.number };
       since_stays = refl;
@@ -30,7 +36,7 @@ returns-in-Leaves-clause-fitting c = λ d es taken careful a is.
     let flight = c.args.flight.now in
     let some : 0 < c.count-count.result = omega arith in
     rw c.leave.ensures.answer
-    (left_applies (record { reality = s.reality; since = s.since }) d es taken (rw (← c.self.view_is) at a) (record { reality = c.leave.new.self; since = s.since })
+    (left_applies (record { reality = s.reality; since = s.since; asked = s.asked; answered = s.answered }) d es taken (rw (← c.self.view_is) at a) (record { reality = c.leave.new.self; since = s.since; asked = s.asked; answered = s.answered })
     (record {
       same = record { cluster = c.leave.ensures.same.cluster ∙ c.turn.ensures.same.cluster; number = c.leave.ensures.same.number ∙ c.turn.ensures.same.number };
       since_stays = refl;
@@ -47,7 +53,7 @@ returns-in-Joins-clause-agrees c = λ d es taken a is.
     let flight = c.args.flight.now in
     let some : 0 < c.count-count.result = omega arith in
     rw c.join.ensures.answer
-    (joined_agrees (record { reality = s.reality; since = s.since }) d es taken (rw (← c.self.view_is) at a) (record { reality = c.join.new.self; since = s.since })
+    (joined_agrees (record { reality = s.reality; since = s.since; asked = s.asked; answered = s.answered }) d es taken (rw (← c.self.view_is) at a) (record { reality = c.join.new.self; since = s.since; asked = _; answered = _ })
     (record {
       same = record { cluster = c.join.ensures.same.cluster ∙ c.turn.ensures.same.cluster; number = c.join.ensures.same.number ∙ c.turn.ensures.same.number };
       since_stays = refl;
@@ -61,7 +67,7 @@ returns-in-Joins-clause-fitting c = λ d es taken careful a is.
     let flight = c.args.flight.now in
     let some : 0 < c.count-count.result = omega arith in
     rw c.join.ensures.answer
-    (joined_applies (record { reality = s.reality; since = s.since }) d es taken (rw (← c.self.view_is) at a) (record { reality = c.join.new.self; since = s.since })
+    (joined_applies (record { reality = s.reality; since = s.since; asked = s.asked; answered = s.answered }) d es taken (rw (← c.self.view_is) at a) (record { reality = c.join.new.self; since = s.since; asked = s.asked; answered = s.answered })
     (record {
       same = record { cluster = c.join.ensures.same.cluster ∙ c.turn.ensures.same.cluster; number = c.join.ensures.same.number ∙ c.turn.ensures.same.number };
       since_stays = refl;
@@ -77,7 +83,7 @@ returns-in-Ends-clause-agrees c = λ d es taken a is.
     let s = c.self.inside in
     let flight = c.args.flight.now in
     let some : 0 < c.count-count.result = omega arith in
-    ended_agrees (record { reality = s.reality; since = s.since }) d es taken (rw (← c.self.view_is) at a) (record { reality = c.end.new.self; since = s.since })
+    ended_agrees (record { reality = s.reality; since = s.since; asked = s.asked; answered = s.answered }) d es taken (rw (← c.self.view_is) at a) (record { reality = c.end.new.self; since = s.since; asked = _; answered = _ })
     (record {
       same = record { cluster = c.end.ensures.same.cluster ∙ c.turn.ensures.same.cluster; number = c.end.ensures.same.number ∙ c.turn.ensures.same.number };
       since_stays = refl;
@@ -90,7 +96,7 @@ returns-in-Ends-clause-fitting c = λ d es taken careful a is.
     let s = c.self.inside in
     let flight = c.args.flight.now in
     let some : 0 < c.count-count.result = omega arith in
-    ended_applies (record { reality = s.reality; since = s.since }) d es taken (rw (← c.self.view_is) at a) (record { reality = c.end.new.self; since = s.since })
+    ended_applies (record { reality = s.reality; since = s.since; asked = s.asked; answered = s.answered }) d es taken (rw (← c.self.view_is) at a) (record { reality = c.end.new.self; since = s.since; asked = s.asked; answered = s.answered })
     (record {
       same = record { cluster = c.end.ensures.same.cluster ∙ c.turn.ensures.same.cluster; number = c.end.ensures.same.number ∙ c.turn.ensures.same.number };
       since_stays = refl;

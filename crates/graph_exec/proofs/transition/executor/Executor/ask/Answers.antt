@@ -1,4 +1,5 @@
 use Rattle.std.proofs.Common.{refl}
+use Rattle.graph_exec.proofs.Aborting.{none_aborted, silent_aborted}
 use Rattle.graph_exec.proofs.Carrying.{answered_by, answered_silently}
 use Rattle.graph_exec.proofs.Agreeing.{accords_failed, accords_refused, accords_silent, accords_taken, never_refused, seen}
 use Rattle.graph_exec.proofs.Lasts.{source_asked, source_on}
@@ -58,22 +59,36 @@ pub returns-in-Ok-clause-source : goal.returns-in-Ok-clause-source
 returns-in-Ok-clause-source g c =
     let says = c.in-Answer.ensures in
     source_on g.S.Outcomes _ _ g.met.S.Outcomes.from_said _ (λ e. cc)
-    (source_asked g.S.Outcomes _ _ _ says.whole says.count says.cause says.careful says.steady says.over says.said)
+    (source_asked g.S.Outcomes _ _ _ says.whole says.count says.cause says.answered says.careful says.steady says.over says.said)
 
 pub returns-in-Silent-clause-source : goal.returns-in-Silent-clause-source
 returns-in-Silent-clause-source g c =
     let says = c.in-Silent.ensures in
     source_on g.S.Outcomes _ _ g.met.S.Outcomes.from_said _ (λ e. cc)
-    (source_asked g.S.Outcomes _ _ _ says.whole says.count says.cause says.careful says.steady says.over says.said)
+    (source_asked g.S.Outcomes _ _ _ says.whole says.count says.cause says.answered says.careful says.steady says.over says.said)
 
 -- what was said last ends it
 
 pub returns-in-Err-clause-source : goal.returns-in-Err-clause-source
 returns-in-Err-clause-source g c =
     let says = c.in-Answer.ensures in
-    rw c.in-Err.ensures.answer (source_asked g.S.Outcomes _ _ _ says.whole says.count says.cause says.careful says.steady says.over says.said)
+    rw c.in-Err.ensures.answer (source_asked g.S.Outcomes _ _ _ says.whole says.count says.cause says.answered says.careful says.steady says.over says.said)
 
 pub returns-in-Failed-clause-source : goal.returns-in-Failed-clause-source
 returns-in-Failed-clause-source g c =
     let says = c.in-Failed.ensures in
-    source_asked g.S.Outcomes _ _ _ says.whole says.count says.cause says.careful says.steady says.over says.said
+    source_asked g.S.Outcomes _ _ _ says.whole says.count says.cause says.answered says.careful says.steady says.over says.said
+
+-- what aborts comes with an answer
+
+pub returns-in-Ok-clause-aborted : goal.returns-in-Ok-clause-aborted
+returns-in-Ok-clause-aborted g c = record { given = λ calm aborted. c.in-Answer.ensures.answered.rose }
+
+pub returns-in-Err-clause-aborted : goal.returns-in-Err-clause-aborted
+returns-in-Err-clause-aborted g c = rw c.in-Err.ensures.err.same (none_aborted c.args.self.now _ _)
+
+pub returns-in-Silent-clause-aborted : goal.returns-in-Silent-clause-aborted
+returns-in-Silent-clause-aborted g c = silent_aborted _ _ _ _ _ c.end_silently.ensures.ended
+
+pub returns-in-Failed-clause-aborted : goal.returns-in-Failed-clause-aborted
+returns-in-Failed-clause-aborted g c = none_aborted c.args.self.now _ _

@@ -1,5 +1,6 @@
 use Rattle.std.proofs.Common.{arith, refl, ◌∙◌}
 use Rattle.graph_exec.specs.declared.transition.watcher.Heard.TheVariants as heard
+use Rattle.graph_exec.proofs.Aborting.{aborted_then, none_aborted}
 use Rattle.graph_exec.proofs.Carrying.{went_nowhere, went_on}
 use Rattle.graph_exec.proofs.Lasts.{source_same, source_then, watcher_same, watcher_then}
 use Rattle.graph_exec.proofs.Said.{said_nothing, said_on}
@@ -13,6 +14,7 @@ loop-init g c = record {
   asks = omega arith;
   source = source_same g.S.Outcomes g.met.S.Outcomes.from_itself _;
   asked = refl;
+  aborted = none_aborted _ _ _;
   agrees = λ h. h;
   told = told_nothing _ (g.met.V.Watcher.from_itself _) _;
   watcher = watcher_same g.V.Watcher _;
@@ -34,6 +36,7 @@ loop-preserved g c =
       asks = omega arith;
       source = source_then g.S.Outcomes g.met.S.Outcomes.from_before g.met.S.Outcomes.said_later _ _ _ _ so_far.source now.source;
       asked = now.asked ∙ so_far.asked;
+      aborted = aborted_then _ _ _ _ _ _ so_far.source.answered now.source.answered so_far.aborted now.aborted;
       agrees = λ h. now.agrees (so_far.agrees h);
       told = told_on _ _ _ (g.met.V.Watcher.from_before _ _ _) _ _ _ so_far.told (rw c.in-Some-Go.field-0-is at c.in-Some-Go.ensures.told);
       watcher = watcher_then g.V.Watcher _ _ _ _ so_far.watcher
@@ -89,3 +92,13 @@ returns-in-None-clause-shown g c h = c.in-None.ensures.shown (c.loop.invariant.s
 
 pub returns-in-Some-Stop-clause-shown : goal.returns-in-Some-Stop-clause-shown
 returns-in-Some-Stop-clause-shown g c h = (rw c.in-Some-Stop.field-0-is at c.in-Some-Stop.ensures.shown) (c.loop.invariant.shown h)
+
+-- nothing aborts it
+
+pub returns-in-None-clause-aborted : goal.returns-in-None-clause-aborted
+returns-in-None-clause-aborted g c =
+    aborted_then _ _ _ _ _ _ c.loop.invariant.source.answered c.begin_one.ensures.source.answered c.loop.invariant.aborted c.begin_one.ensures.aborted
+
+pub returns-in-Some-Stop-clause-aborted : goal.returns-in-Some-Stop-clause-aborted
+returns-in-Some-Stop-clause-aborted g c =
+    aborted_then _ _ _ _ _ _ c.loop.invariant.source.answered c.begin_one.ensures.source.answered c.loop.invariant.aborted c.begin_one.ensures.aborted

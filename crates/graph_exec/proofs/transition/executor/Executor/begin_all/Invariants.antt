@@ -1,5 +1,6 @@
 use Rattle.std.proofs.Common.{◌≡◌, ◌≤◌}
 use Rattle.graph_exec.specs.declared.transition.watcher.Heard.TheVariants as heard
+use Rattle.graph_exec.specs.Counts.{IsAbortAnswered}
 use Rattle.graph_exec.specs.Lasting.{SourceLasts, WatcherLasts, none_failed}
 use Rattle.graph_exec.specs.Inner.Rounds.{asks_left, begins_left}
 use Rattle.graph_exec.specs.Running.{Went}
@@ -14,6 +15,7 @@ invariant-loop g l = record {
   asks : asks_left l.self ≤ asks_left l.fn.self;
   source : SourceLasts g.S.Outcomes l.fn.outcomes l.outcomes none_failed;
   asked : g.S.Outcomes.asked l.outcomes ≡ g.S.Outcomes.asked l.fn.outcomes;
+  aborted : IsAbortAnswered l.fn.self l.self (g.S.Outcomes.answered l.fn.outcomes) (g.S.Outcomes.answered l.outcomes);
   agrees : Accords (g.S.Outcomes.agrees l.fn.outcomes) l.fn.self → Accords (g.S.Outcomes.agrees l.outcomes) l.self;
   told : AreLinesTold (g.V.Watcher.follows l.fn.watcher l.watcher) l.fn.self l.self;
   watcher : WatcherLasts g.V.Watcher l.fn.watcher l.watcher heard.Go;

@@ -1,6 +1,7 @@
 use Rattle.std.proofs.Common.{Some, ap, ◌∙◌}
 use Rattle.graph_exec.specs.declared.transition.watcher.Heard.TheVariants as heard
 use Rattle.graph_exec.specs.Watching.{view_of}
+use Rattle.graph_exec.proofs.Aborting.{begin_aborted, none_aborted}
 use Rattle.graph_exec.proofs.Carrying.{fewer_begins, no_more_asks, went_begun, went_nowhere}
 use Rattle.graph_exec.proofs.Lasts.{source_same, source_told, watcher_same, watcher_told}
 use Rattle.graph_exec.proofs.Said.{said_begun, said_nothing}
@@ -51,7 +52,7 @@ returns-clause-told g c =
 pub returns-clause-source : goal.returns-clause-source
 returns-clause-source g c =
     let told = c.begun.ensures in
-    source_told g.S.Outcomes _ _ told.whole told.count told.careful told.steady told.over told.follows
+    source_told g.S.Outcomes _ _ told.whole told.count told.answered told.careful told.steady told.over told.follows
 
 pub returns-clause-watcher : goal.returns-clause-watcher
 returns-clause-watcher g c =
@@ -70,3 +71,11 @@ returns-clause-shown g c h =
     let action = begun_action _ _ c.in-Some.number begins c.action-action.result (rw (c.graph.ensures ∙ graph) at c.action-action.ensures) in
     shown_later (g.V.Watcher.shown c.args.watcher.now heard.Go) (g.V.Watcher.shown c.begun-2.new.self c.begun-2.result) _ _ _ begins.goes_on
     (λ before. rw action (c.begun-2.ensures.shown (view_of c.args.self.now) (begins.begins.action ∙ ap Some action) before)) h
+
+-- nothing aborts it
+
+pub returns-in_default-clause-aborted : goal.returns-in_default-clause-aborted
+returns-in_default-clause-aborted g c = rw c.in_default.ensures.settled.same (none_aborted c.args.self.now _ _)
+
+pub returns-clause-aborted : goal.returns-clause-aborted
+returns-clause-aborted g c = begin_aborted _ _ _ _ (record { number = c.in-Some.number; now = c.in-Some.ensures.begins })

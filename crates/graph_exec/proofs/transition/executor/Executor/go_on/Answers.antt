@@ -1,6 +1,7 @@
 use Rattle.std.proofs.Common.{refl}
 use Rattle.graph_exec.specs.declared.transition.watcher.Heard.TheVariants as heard
 use Rattle.graph_exec.specs.Watching.{IsShownAll}
+use Rattle.graph_exec.proofs.Aborting.{none_aborted}
 use Rattle.graph_exec.proofs.Carrying.{advanced, ends_by, gone_by, same_by, still_going, went_answered, went_nowhere}
 use Rattle.graph_exec.proofs.Lasts.{source_same, watcher_then, watcher_told, watcher_untold}
 use Rattle.graph_exec.proofs.Shown.{same_shown, shown_on, shown_taken}
@@ -21,6 +22,9 @@ returns-in-Stop-clause-told g c =
 
 pub returns-in-Stop-clause-shown : goal.returns-in-Stop-clause-shown
 returns-in-Stop-clause-shown g c h = shown_on _ _ c.args.self.now c.in-Stop.ensures.shown h
+
+pub returns-in-Stop-clause-aborted : goal.returns-in-Stop-clause-aborted
+returns-in-Stop-clause-aborted g c = none_aborted c.args.self.now _ _
 
 -- it goes on, and so it does at the answer
 

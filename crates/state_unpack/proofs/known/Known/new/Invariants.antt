@@ -1,6 +1,0 @@
-use Rattle.std.proofs.Common.{take}
-use Rattle.state_unpack.specs.Known.{Knows}
-use Rattle.state_unpack.proofs.known.Known.new.Given as goal
-
-abbrev pub invariant-loop-event : goal.invariant-loop-event
-invariant-loop-event l = Knows l.cluster (take l.event-index l.events) l.known
