@@ -1,5 +1,5 @@
 -- What is left behind of the answers to come, and which of the result lines was the last.
-use Rattle.std.proofs.Common.{◌≡◌, ℕ, Bool, Option, Some, None, List, [], ◌∷◌, ◌++◌, map, length, append_assoc, refl, ap, sym, ◌∙◌, arith}
+use Rattle.std.proofs.Common.{◌≡◌, ℕ, Bool, Option, Some, None, List, [], ◌∷◌, ◌++◌, map, append_assoc, refl, ap, sym, ◌∙◌}
 use Rattle.cluster_types.specs.declared.cluster.Cluster.{Cluster}
 use Rattle.cluster_types.specs.declared.journal.Answer.{Answer}
 use Rattle.cluster_types.specs.declared.journal.Event.{Event}
@@ -93,7 +93,3 @@ last_one (x ∷ y ∷ xs) (a ∷ front) given e =
 pub line_of_last : (line : ℕ) (xs : List ResultLine) (r : ResultLine) → last_line line (xs ++ r ∷ []) ≡ r.line
 line_of_last line [] r = refl
 line_of_last line (x ∷ xs) r = line_of_last x.line xs r
-
-pub answers_size : (xs : List ResultLine) → length (map answer_in xs) ≡ length xs
-answers_size [] = refl
-answers_size (x ∷ xs) = let n = answers_size xs in omega (arith, n)

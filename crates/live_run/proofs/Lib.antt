@@ -10,7 +10,6 @@ pub mod Unfinished
 pub mod Stepping
 pub mod Asked
 pub mod NoFault
-pub mod Few
 pub mod Readers
 pub mod Written
 pub mod Ready

@@ -32,18 +32,16 @@ use Rattle.live_run.specs.Reached.{IsBrokenOff, IsCutOff, Reaches, at_rest, in_r
 use Rattle.live_run.specs.Inner.RunEnds.{EndsCut, EndsDone, EndsLines, EndsWithoutMemory}
 use Rattle.live_run.specs.declared.live_end.LiveEnd.{LiveEnd}
 use Rattle.live_run.specs.declared.live_end.LiveEnd.TheVariants as end
-use Rattle.live_run.proofs.Behind.{answer_in, answers_size}
+use Rattle.live_run.proofs.Behind.{answer_in}
 use Rattle.live_run.proofs.Dues.{begins_due, one_end}
 use Rattle.input_reading.specs.declared.results.result_lines.ResultLine.{ResultLine}
 use Rattle.graph_exec.specs.Replays.{setting, sight}
 use Rattle.graph_exec.proofs.Whole.{asks_still}
 use Rattle.live_run.specs.Writing.{CutsShort, GoesOut, last_text}
 use Rattle.graph_exec.specs.Replays as replays
-use Rattle.graph_exec.specs.RunEnds.{at_most, in_failure, unexpected, with_all}
+use Rattle.graph_exec.specs.RunEnds.{in_failure, unexpected, with_all}
 use Rattle.run_safety.specs.Followed.{IsFront, at_first}
 use Rattle.run_safety.proofs.Between.{ends_between}
-use Rattle.run_safety.proofs.Counted.{never_most}
-use Rattle.live_run.proofs.Few.{few_results}
 use Rattle.live_run.proofs.Given.{CutBy, cut_by, given_by}
 use Rattle.run_safety.proofs.Silent.{not_over}
 use Rattle.run_safety.proofs.SoFar.{runs_more}
@@ -427,17 +425,6 @@ module _ (c : Cluster) (journal : Journal) (reading : Reading) where
         by end.TooLarge put = absurd put
         by end.ReadFault put = absurd put
 
-    -- so many transitions are never made
-    most_never : (before after old new : Option (List ℕ)) (t : SourceState) (was is : Bool) (j : Journal) (how : LiveEnd)
-        → replays.IsTold Follows Stopped (along before after old new t was is) journal.events (sight (rest_of (told_by start before)) was) (sight (rest_of (told_by t after)) is) j (at_most 10001)
-        → reaches before after old new t was is how
-    most_never None after old new t was is j how w = tt
-    most_never (Some left) after old new t was is j how w =
-        let coming = results_behind c journal reading left in
-        let count = few_results c start.lines (raw_lines (reading.held ++ left)) (omega arith) in
-        let size : length (answers_to_come coming) ≡ length coming.results = answers_size coming.results in
-        never_most c journal.promotions (is_none coming.stop) journal.events (Some (answers_to_come coming)) (rest_of (told_by t after)) w.lines tt 10001 j.events (omega (arith, count, size)) w.ended
-
 -- there is no memory for the first line: nothing was written
 pub nothing_reached : (c : Cluster) (journal : Journal) (reading : Reading) (before after text : Option (List ℕ))
     → IfSome before (λ left. Reaches c journal reading left after text text end.NoMemory)
@@ -517,10 +504,6 @@ module _ (c : Cluster) (journal : Journal) (reading : Reading) (s t : SourceStat
   pub between_from : TellsBy → replays.IsBetweenTwo Follows Stopped from journal.events (sight (rest_of (told_by s before)) was) (sight (rest_of (told_by t after)) is) → SourceFollows s t before after
       → (how : LiveEnd) → EndsWithoutMemory held how middle new → IfSome before (λ left. Reaches c journal reading left after old new how)
   between_from tells w f how e = between_reached c journal reading Follows Stopped before after old middle new held t was is (tells_so tells) (rw fresh at w) (rw fresh at f) how e
-
-  pub most_from : (how : LiveEnd) → replays.IsTold Follows Stopped from journal.events (sight (rest_of (told_by s before)) was) (sight (rest_of (told_by t after)) is) j (at_most 10001)
-      → IfSome before (λ left. Reaches c journal reading left after old new how)
-  most_from how w = most_never c journal reading Follows Stopped before after old new t was is j how (rw fresh at w)
 
 pub failed_kind : (exact : Bool) (v u : View) → HasQuestionFailed exact v u → HasBroken v.standing u.standing v.left u.left ⊎ HasStopped v.standing u.standing v.left u.left
 failed_kind exact v u (by_source h failed) = inl h

@@ -20,7 +20,9 @@ impl<'c, 's, S: Source> Outcomes for LineOutcomes<'c, 's, S> {
 
     ghost faults = { λ o. faults_of (standing_of o) (S.faults (outcomes_source o)) };
 
-    ghost asked = { λ o. (standing_of o).lines.at.before };
+    ghost asked = { λ o. o.asked };
+
+    ghost answered = { λ o. (standing_of o).lines.at.before };
 
     ghost careful = { λ _. false };
 

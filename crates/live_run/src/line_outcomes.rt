@@ -3,6 +3,7 @@
 ghost use Rattle.std.specs.Prelude.{◌≡◌, ◌≢◌, ◌+◌, ◌≤◌, ◌<◌, ◌^◌, None, Some, true, false, is_none, is_some, IfOk};
 ghost use Rattle.cluster_io.specs.LineReaders.{loan_of, reading_of, source_of};
 ghost use Rattle.cluster_io.specs.Streams.{Bears, Rose};
+ghost use Rattle.graph_exec.specs.Counts.{CountsAnswer, RoseByOne};
 ghost use Rattle.live_run.specs.AtHand.{IsAtHand};
 ghost use Rattle.live_run.specs.Coming.{AreReady};
 ghost use Rattle.live_run.specs.Courses.{CourseAnswers, LineStays, faults_of, has_course_ended, is_reading, starting, stop_of, stops_last};
@@ -35,6 +36,8 @@ pub struct LineOutcomes<'c, 's, S: Source> {
     course: Course,
     line: u32,
     failed: bool,
+    /// How often it was asked.
+    asked: u64,
     ghost ready: { AreReady (reader_lines reader) },
     ghost going: { is_reading course ≡ true → is_none (reader_lines reader).reading.stop ≡ true },
     ghost last: { stops_last course ≡ true },
@@ -95,6 +98,7 @@ impl<'c, 's, S: Source> LineOutcomes<'c, 's, S> {
             course: Course::Reading,
             line: 0,
             failed: false,
+            asked: 0,
         }
     }
 
@@ -109,6 +113,7 @@ impl<'c, 's, S: Source> LineOutcomes<'c, 's, S> {
             course: _,
             line: _,
             failed: _,
+            asked: _,
         } = self;
         let ResultReader {
             lines,
@@ -159,7 +164,8 @@ impl<'c, 's, S: Source> LineOutcomes<'c, 's, S> {
             (S.left (outcomes_source self.old)) (S.left (outcomes_source self.new)) }
         ensures said { HasSaid S.counts_only_failures (outcomes_view S.left S.faults self.old) (outcomes_view S.left S.faults self.new) result }
         ensures line { LineStays result (standing_of self.old).line (standing_of self.new).line }
-        ensures asked { (standing_of self.new).lines.at.before ≤ (standing_of self.old).lines.at.before + 1 }
+        ensures answered { CountsAnswer result (standing_of self.old).lines.at.before (standing_of self.new).lines.at.before }
+        ensures asked { self.new.asked ≡ self.old.asked }
         ensures stop { result ≡ Next.Failed → is_some (stop_of (standing_of self.new)) ≡ true }
         ensures unread { IsAtHand (standing_of self.old) → outcomes_source self.new ≡ outcomes_source self.old }
         ensures at_hand { IsAtHand (standing_of self.old) → result ≡ Next.Failed → stop_of (standing_of self.new) ≢ Some LineStop.ReadFault }
@@ -197,7 +203,9 @@ impl<'c, 's, S: Source> LineOutcomes<'c, 's, S> {
             (S.left (outcomes_source self.old)) (S.left (outcomes_source self.new)) }
         ensures said { HasSaid S.counts_only_failures (outcomes_view S.left S.faults self.old) (outcomes_view S.left S.faults self.new) result }
         ensures line { LineStays result (standing_of self.old).line (standing_of self.new).line }
-        ensures asked { (standing_of self.new).lines.at.before ≤ (standing_of self.old).lines.at.before + 1 }
+        ensures answered { CountsAnswer result (standing_of self.old).lines.at.before (standing_of self.new).lines.at.before }
+        ensures few { (standing_of self.new).lines.at.before ≤ 10000 }
+        ensures asked { RoseByOne self.old.asked self.new.asked }
         ensures stop { result ≡ Next.Failed → is_some (stop_of (standing_of self.new)) ≡ true }
         ensures unread { IsAtHand (standing_of self.old) → outcomes_source self.new ≡ outcomes_source self.old }
         ensures at_hand { IsAtHand (standing_of self.old) → result ≡ Next.Failed → stop_of (standing_of self.new) ≢ Some LineStop.ReadFault }
@@ -212,6 +220,7 @@ impl<'c, 's, S: Source> LineOutcomes<'c, 's, S> {
             (S.faults (outcomes_source self.old)) (S.faults (outcomes_source self.new)) }
         ensures same_source { outcomes_loan self.new ≡ outcomes_loan self.old }
     {
+        self.asked = self.asked.saturating_add(1);
         match self.course {
             Course::Reading => self.read_on(),
             Course::Ended => Next::Silent,

@@ -132,10 +132,7 @@ fn run_to_end<S: Source, W: Sink>(
             LiveEnd::WriteFault
         }
         // Each transition but the last takes a result line: so many are never made.
-        Err(ReplayStop::Most(journal)) => {
-            drop(journal);
-            end_without_memory(writer)
-        }
+        Err(ReplayStop::Most(_)) => unreachable!(),
         Err(ReplayStop::NoMemory) => end_without_memory(writer),
     }
 }

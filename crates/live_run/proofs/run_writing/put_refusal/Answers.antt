@@ -5,6 +5,6 @@ use Rattle.live_run.proofs.run_writing.put_refusal.Goals as goal
 
 pub returns-clause-text : goal.returns-clause-text
 returns-clause-text g c =
-    let text : c.as_slice.result.now ≡ line_refusal_text c.args.line c.args.cause = c.as_slice.ensures.text ∙ (c.write_refusal.ensures
+    let text : c.as_slice.result.now ≡ line_refusal_text c.args.line c.args.cause = c.as_slice.ensures.text ∙ (c.write_refusal.ensures.text
     ∙ ap (λ (name : List ℕ). codes "refused " ++ decimal c.args.line ++ codes " " ++ name ++ codes "\n") c.name.ensures) in
     goes_all c.flush.result _ _ _ _ _ _ (rw text at c.in_ok-push.ensures.text) c.flush.ensures.text c.flush.ensures.few

@@ -2,7 +2,7 @@ use Rattle.std.proofs.Common.{ap}
 use Rattle.live_run.specs.Courses.{SourceState, has_course_ended, is_reading}
 use Rattle.live_run.specs.LineSources.{outcomes_source, standing_of, outcomes_view}
 use Rattle.live_run.specs.LineWriters.{writer_held, writer_cluster, sink_of}
-use Rattle.live_run.proofs.Reaching.{between_from, cut_off_from, done_from, failed_from, failed_kind, most_from, unexpected_from}
+use Rattle.live_run.proofs.Reaching.{between_from, cut_off_from, done_from, failed_from, failed_kind, unexpected_from}
 use Rattle.live_run.proofs.running.run_to_end.Goals as goal
 
 pub returns-in-Ok-clause-reaches : goal.returns-in-Ok-clause-reaches
@@ -42,19 +42,11 @@ returns-in-Err-Stopped-clause-reaches g c =
     (g.W.Sink.written (sink_of c.replay_watched.new.watcher)) (writer_held c.replay_watched.new.watcher) (has_course_ended (standing_of c.args.outcomes.now).course) (has_course_ended (standing_of c.replay_watched.new.outcomes).course)
     c.in-Err-Stopped.journal _ _ (λ lines at told. rw c.requires.empty at told.text) (rw c.in-Err-Stopped.field-0-is at c.in-Err-Stopped.ensures.run) (rw c.in-Err-Stopped.field-0-is at c.in-Err-Stopped.ensures.source).came.follows
 
-pub returns-in-Err-Most-clause-reaches : goal.returns-in-Err-Most-clause-reaches
-returns-in-Err-Most-clause-reaches g c =
-    most_from c.args.cluster.now c.args.journal (standing_of c.args.outcomes.now).lines.reading (standing_of c.args.outcomes.now)
-    (standing_of c.replay_watched.new.outcomes) (writer_cluster c.args.writer.now) c.requires.fresh c.requires.names (g.S.Source.left (outcomes_source c.args.outcomes.now))
-    (g.S.Source.left (outcomes_source c.replay_watched.new.outcomes)) (g.W.Sink.written (sink_of c.args.writer.now)) (g.W.Sink.written (sink_of c.replay_watched.new.watcher))
-    (g.W.Sink.written (sink_of c.end_without_memory.new.writer)) (writer_held c.replay_watched.new.watcher) (has_course_ended (standing_of c.args.outcomes.now).course) (has_course_ended (standing_of c.replay_watched.new.outcomes).course)
-    c.in-Err-Most.journal _ _ c.end_without_memory.result (rw c.in-Err-Most.field-0-is at c.in-Err-Most.ensures.run)
-
 pub returns-in-Err-NoMemory-clause-reaches : goal.returns-in-Err-NoMemory-clause-reaches
 returns-in-Err-NoMemory-clause-reaches g c =
     between_from c.args.cluster.now c.args.journal (standing_of c.args.outcomes.now).lines.reading (standing_of c.args.outcomes.now)
     (standing_of c.replay_watched.new.outcomes) (writer_cluster c.args.writer.now) c.requires.fresh c.requires.names (g.S.Source.left (outcomes_source c.args.outcomes.now))
     (g.S.Source.left (outcomes_source c.replay_watched.new.outcomes)) (g.W.Sink.written (sink_of c.args.writer.now)) (g.W.Sink.written (sink_of c.replay_watched.new.watcher))
-    (g.W.Sink.written (sink_of c.end_without_memory-in-Err-NoMemory.new.writer)) (writer_held c.replay_watched.new.watcher) (has_course_ended (standing_of c.args.outcomes.now).course) (has_course_ended (standing_of c.replay_watched.new.outcomes).course)
+    (g.W.Sink.written (sink_of c.end_without_memory.new.writer)) (writer_held c.replay_watched.new.watcher) (has_course_ended (standing_of c.args.outcomes.now).course) (has_course_ended (standing_of c.replay_watched.new.outcomes).course)
     c.args.journal _ _ (λ lines told. rw c.requires.empty at told.text) (rw c.in-Err-NoMemory.field-0-is at c.in-Err-NoMemory.ensures.run)
-    (rw c.in-Err-NoMemory.field-0-is at c.in-Err-NoMemory.ensures.source).came.follows c.end_without_memory-in-Err-NoMemory.result c.end_without_memory-in-Err-NoMemory.ensures.text
+    (rw c.in-Err-NoMemory.field-0-is at c.in-Err-NoMemory.ensures.source).came.follows c.end_without_memory.result c.end_without_memory.ensures.text
