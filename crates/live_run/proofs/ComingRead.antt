@@ -33,11 +33,12 @@ use Rattle.live_run.specs.declared.place.Place.{Place}
 use Rattle.live_run.specs.declared.line_meaning.Said.{Said}
 use Rattle.live_run.specs.declared.line_meaning.Said.TheVariants as said
 use Rattle.live_run.proofs.HeadRead.{SaysSize, fault_behind, line_read, size_says}
-use Rattle.live_run.proofs.LinesJoined.{both_none, bytes_in, none_first}
+use Rattle.live_run.specs.Followed.{bytes_of}
+use Rattle.live_run.proofs.LinesJoined.{both_none, none_first}
 
 -- some lines lie within the limit and have no fault, and are read as these results behind others
 pub record AreResults (c : Cluster) (start n : ℕ) (so_far : List ResultLine) (room : ℕ) (groups : List (List (List ℕ))) (results : List ResultLine) : Type 0 where
-  pub within : length (bytes_in groups) ≤ room
+  pub within : length (bytes_of groups) ≤ room
   pub clean : faults_from n groups ≡ []
   pub read : with_result_lines c start so_far (rows_from n groups) ≡ Ok (so_far ++ results)
 
@@ -47,7 +48,7 @@ module _ (c : Cluster) (start n : ℕ) (so_far : List ResultLine) (room : ℕ) (
   SaysStop results None = AreResults c start n so_far room groups results
   SaysStop results (Some (stop.Refused line (cause.Words why))) = first_lex_fault (faults_from n groups) ≡ Some (At line why)
   SaysStop results (Some (stop.Refused line (cause.Form why))) = faults_from n groups ≡ [] → with_result_lines c start so_far (rows_from n groups) ≡ Err (At line why)
-  SaysStop results (Some stop.TooLarge) = room < length (bytes_in groups)
+  SaysStop results (Some stop.TooLarge) = room < length (bytes_of groups)
   SaysStop results (Some stop.ReadFault) = ⊥
 
   abbrev pub SaysComing : Coming → Type 0
@@ -80,11 +81,11 @@ module _ (c : Cluster) (start room : ℕ) (at : Place) (so_far : List ResultLine
   abbrev All : Said → Type 0
   All s = SaysComing c start at.line so_far room (group ∷ groups) (said_first at s (behind s))
 
-  room_for : length (concat group) ≤ room → length (bytes_in groups) ≤ room - length (concat group) → length (bytes_in (group ∷ groups)) ≤ room
-  room_for fits rest = let size = length-append (concat group) (bytes_in groups) in omega (arith, fits, rest, size)
+  room_for : length (concat group) ≤ room → length (bytes_of groups) ≤ room - length (concat group) → length (bytes_of (group ∷ groups)) ≤ room
+  room_for fits rest = let size = length-append (concat group) (bytes_of groups) in omega (arith, fits, rest, size)
 
-  over : room - length (concat group) < length (bytes_in groups) → room < length (bytes_in (group ∷ groups))
-  over large = let size = length-append (concat group) (bytes_in groups) in omega (arith, large, size)
+  over : room - length (concat group) < length (bytes_of groups) → room < length (bytes_of (group ∷ groups))
+  over large = let size = length-append (concat group) (bytes_of groups) in omega (arith, large, size)
 
   both_clean : faults at.line group ≡ [] → faults_from (at.line + length group) groups ≡ [] → faults_from at.line (group ∷ groups) ≡ []
   both_clean = none_first (faults at.line group) (faults_from (at.line + length group) groups)
@@ -157,7 +158,7 @@ module _ (c : Cluster) (start room : ℕ) (at : Place) (so_far : List ResultLine
   of_length : (size : LineStep) → SaysSize room group size → physical_lines (concat group) ≡ group → Later → All (sized_says c at size group)
   of_length step.Line s own later = subst (λ (read : _). All (read_says c at read)) (sym (line_read at.line group own)) (of_found (faults at.line group) s refl later)
   of_length step.TooLong s own later = s at.line (faults_from (at.line + length group) groups)
-  of_length step.TooLarge s own later = let size = length-append (concat group) (bytes_in groups) in omega (arith, s, size)
+  of_length step.TooLarge s own later = let size = length-append (concat group) (bytes_of groups) in omega (arith, s, size)
   of_length step.End s own later = absurd s
   of_length step.Failed s own later = absurd s
 

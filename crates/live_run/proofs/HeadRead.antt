@@ -23,7 +23,9 @@ use Rattle.input_reading.specs.declared.input.cause.InputCause.{InputCause}
 use Rattle.input_reading.specs.declared.input.cause.InputCause.TheVariants.{Words}
 use Rattle.input_reading.proofs.Faults.{StandsAt, first_group}
 use Rattle.live_run.specs.Heads as heads
-use Rattle.live_run.proofs.LinesJoined.{bytes_in, count_physical, none_first}
+use Rattle.crm_lex.proofs.FaultOrder.{count_lines}
+use Rattle.live_run.specs.Followed.{bytes_of}
+use Rattle.live_run.proofs.LinesJoined.{none_first}
 
 -- a line begins the results
 abbrev pub results_row : Line → Bool
@@ -39,10 +41,10 @@ pub record HasHead (before : List ℕ) (room n : ℕ) (groups : List (List (List
   pub first : List (List (List ℕ))
   pub more : List (List (List ℕ))
   pub parts : groups ≡ first ++ more
-  pub text_is : text ≡ before ++ bytes_in first
-  pub number : next ≡ n + count_physical first
-  pub room_is : left ≡ room - length (bytes_in first)
-  pub within : length (bytes_in first) ≤ room
+  pub text_is : text ≡ before ++ bytes_of first
+  pub number : next ≡ n + count_lines first
+  pub room_is : left ≡ room - length (bytes_of first)
+  pub within : length (bytes_of first) ≤ room
   pub clean : faults_from n first ≡ []
   pub ends : EndsHead (rows_from n first) more
 
@@ -56,7 +58,7 @@ pub record LackWords (n : ℕ) (groups : List (List (List ℕ))) (line : ℕ) (w
 abbrev pub SaysHead : List ℕ → ℕ → ℕ → List (List (List ℕ)) → heads.HeadVerdict → Type 0
 SaysHead before room n groups (heads.taken text next left) = HasHead before room n groups text next left
 SaysHead before room n groups (heads.refused line why) = LackWords n groups line why
-SaysHead before room n groups heads.too_large = room < length (bytes_in groups)
+SaysHead before room n groups heads.too_large = room < length (bytes_of groups)
 
 short_within : (room : ℕ) (lines : List (List ℕ)) → content_within room lines ≤ content_length lines
 short_within room [] = omega arith
@@ -115,7 +117,7 @@ module _ (before : List ℕ) (room n : ℕ) (group : List (List ℕ)) (groups : 
 
   goes_on : (verdict : heads.HeadVerdict) → length (concat group) ≤ room → faults n group ≡ [] → heads.begins_results (words_of (line_text group)) ≡ false → Behind verdict → SaysHead before room n (group ∷ groups) verdict
   goes_on (heads.taken text next left) fits clean plain h =
-      let size = length-append (concat group) (bytes_in h.first) in
+      let size = length-append (concat group) (bytes_of h.first) in
       let number = h.number in
       let space = h.room_is in
       let rest = h.within in
@@ -123,7 +125,7 @@ module _ (before : List ℕ) (room n : ℕ) (group : List (List ℕ)) (groups : 
         first = group ∷ h.first;
         more = h.more;
         parts = ap (λ (gs : List (List (List ℕ))). group ∷ gs) h.parts;
-        text_is = h.text_is ∙ append_assoc before (concat group) (bytes_in h.first);
+        text_is = h.text_is ∙ append_assoc before (concat group) (bytes_of h.first);
         number = omega (arith, number);
         room_is = omega (arith, space, size);
         within = omega (arith, fits, rest, size);
@@ -132,7 +134,7 @@ module _ (before : List ℕ) (room n : ℕ) (group : List (List ℕ)) (groups : 
       }
   goes_on (heads.refused line why) fits clean plain h =
       record { lack = h.lack; is_lack = h.is_lack; first = fault_behind (faults n group) (faults_from (n + length group) groups) line h.lack clean h.first }
-  goes_on heads.too_large fits clean plain h = let size = length-append (concat group) (bytes_in groups) in omega (arith, h, size)
+  goes_on heads.too_large fits clean plain h = let size = length-append (concat group) (bytes_of groups) in omega (arith, h, size)
 
   -- by the words of the first line
   abbrev With : heads.HeadVerdict
@@ -171,7 +173,7 @@ module _ (before : List ℕ) (room n : ℕ) (group : List (List ℕ)) (groups : 
       subst (λ (read : _). SaysHead before room n (group ∷ groups) (heads.verdict_by (heads.line_by_words read) With verdict)) (sym (line_read n group own))
       (of_faults verdict (faults n group) s refl h)
   of_size verdict step.TooLong s own h = record { lack = LineTooLong; is_lack = refl; first = s n (faults_from (n + length group) groups) }
-  of_size verdict step.TooLarge s own h = let size = length-append (concat group) (bytes_in groups) in omega (arith, s, size)
+  of_size verdict step.TooLarge s own h = let size = length-append (concat group) (bytes_of groups) in omega (arith, s, size)
   of_size verdict step.End s own h = absurd s
   of_size verdict step.Failed s own h = absurd s
 

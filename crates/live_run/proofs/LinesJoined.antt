@@ -9,31 +9,28 @@ use Rattle.crm_lex.specs.Reading.{faults_from, first_lex_fault, reads, row, rows
 use Rattle.crm_lex.specs.Words.{words_of}
 use Rattle.crm_lex.specs.declared.fault.LexCause.{LexCause}
 use Rattle.crm_lex.specs.declared.line.Line.{Line}
+use Rattle.crm_lex.proofs.FaultOrder.{count_lines}
 use Rattle.crm_lex.proofs.Pieces.{whole_by_pieces}
 use Rattle.crm_lex.proofs.PhysicalLines.{Whole, Whole-back, Whole-front, Whole-physical, concat-lines, lines-concat}
 use Rattle.faults.specs.declared.fault.Fault.{Fault}
 use Rattle.faults.specs.Reading.{unless}
+use Rattle.live_run.specs.Followed.{bytes_of}
 
--- how many physical lines some logical lines have
-abbrev pub count_physical : List (List (List ℕ)) → ℕ
-count_physical [] = 0
-count_physical (group ∷ groups) = length group + count_physical groups
-
-pub rows_joined : (n : ℕ) (xs ys : List (List (List ℕ))) → rows_from n (xs ++ ys) ≡ rows_from n xs ++ rows_from (n + count_physical xs) ys
+pub rows_joined : (n : ℕ) (xs ys : List (List (List ℕ))) → rows_from n (xs ++ ys) ≡ rows_from n xs ++ rows_from (n + count_lines xs) ys
 rows_joined n [] ys = ap (λ (m : ℕ). rows_from m ys) (let e : n ≡ n + 0 = omega arith in e)
 rows_joined n (x ∷ xs) ys =
-    let e : n + length x + count_physical xs ≡ n + (length x + count_physical xs) = omega arith in
+    let e : n + length x + count_lines xs ≡ n + (length x + count_lines xs) = omega arith in
     ap (λ (rows : List Line). row n (words_of (line_text x)) ++ rows)
     (rows_joined (n + length x) xs ys ∙ ap (λ (m : ℕ). rows_from (n + length x) xs ++ rows_from m ys) e)
-    ∙ sym (append_assoc (row n (words_of (line_text x))) (rows_from (n + length x) xs) (rows_from (n + count_physical (x ∷ xs)) ys))
+    ∙ sym (append_assoc (row n (words_of (line_text x))) (rows_from (n + length x) xs) (rows_from (n + count_lines (x ∷ xs)) ys))
 
-pub faults_joined : (n : ℕ) (xs ys : List (List (List ℕ))) → faults_from n (xs ++ ys) ≡ faults_from n xs ++ faults_from (n + count_physical xs) ys
+pub faults_joined : (n : ℕ) (xs ys : List (List (List ℕ))) → faults_from n (xs ++ ys) ≡ faults_from n xs ++ faults_from (n + count_lines xs) ys
 faults_joined n [] ys = ap (λ (m : ℕ). faults_from m ys) (let e : n ≡ n + 0 = omega arith in e)
 faults_joined n (x ∷ xs) ys =
-    let e : n + length x + count_physical xs ≡ n + (length x + count_physical xs) = omega arith in
+    let e : n + length x + count_lines xs ≡ n + (length x + count_lines xs) = omega arith in
     ap (λ (found : List (Fault LexCause)). faults n x ++ found)
     (faults_joined (n + length x) xs ys ∙ ap (λ (m : ℕ). faults_from (n + length x) xs ++ faults_from m ys) e)
-    ∙ sym (append_assoc (faults n x) (faults_from (n + length x) xs) (faults_from (n + count_physical (x ∷ xs)) ys))
+    ∙ sym (append_assoc (faults n x) (faults_from (n + length x) xs) (faults_from (n + count_lines (x ∷ xs)) ys))
 
 -- nothing stands in two lists where nothing stands in both together
 pub both_none : {X : Type 0} (xs ys : List X) → xs ++ ys ≡ [] → (xs ≡ []) × (ys ≡ [])
@@ -105,16 +102,11 @@ reads_as text groups cut clean =
     ap (λ (gs : List (List (List ℕ))). unless (first_lex_fault (faults_from 1 gs)) (rows_from 1 gs)) cut
     ∙ ap (λ (found : List (Fault LexCause)). unless (first_lex_fault found) (rows_from 1 groups)) clean
 
--- the bytes of some logical lines
-abbrev pub bytes_in : List (List (List ℕ)) → List ℕ
-bytes_in [] = []
-bytes_in (group ∷ groups) = concat group ++ bytes_in groups
-
-bytes_are : (groups : List (List (List ℕ))) → bytes_in groups ≡ concat (map concat groups)
+bytes_are : (groups : List (List (List ℕ))) → bytes_of groups ≡ concat (map concat groups)
 bytes_are [] = refl
 bytes_are (group ∷ groups) = ap (λ (bs : List ℕ). concat group ++ bs) (bytes_are groups)
 
-pub text_bytes : (text : List ℕ) → bytes_in (raw_lines text) ≡ text
+pub text_bytes : (text : List ℕ) → bytes_of (raw_lines text) ≡ text
 text_bytes text = bytes_are (raw_lines text) ∙ whole_by_pieces text
 
 -- physical lines whose logical lines are these and others, are those of both
@@ -173,8 +165,8 @@ parted continues (line ∷ lines) g gs more e = by (goes_on continues line) refl
 -- a text of these logical lines and others: the bytes of the first, and a text of the others behind them
 pub record IsCut (text : List ℕ) (gs more : List (List (List ℕ))) : Type 0 where
   pub behind : List ℕ
-  pub parts : text ≡ bytes_in gs ++ behind
-  pub first : raw_lines (bytes_in gs) ≡ gs
+  pub parts : text ≡ bytes_of gs ++ behind
+  pub first : raw_lines (bytes_of gs) ≡ gs
   pub rest : raw_lines behind ≡ more
 
 pub cut_at : (text : List ℕ) (gs more : List (List (List ℕ))) → raw_lines text ≡ gs ++ more → IsCut text gs more
@@ -183,7 +175,7 @@ cut_at text (g ∷ gs) more e =
     let p = parted false (physical_lines text) g gs more e in
     let whole = subst Whole p.parts (Whole-physical text) in
     let first : raw_lines (concat p.front) ≡ g ∷ gs = ap (joined false) (lines-concat p.front (Whole-front p.front p.back whole)) ∙ p.first in
-    let bytes : concat p.front ≡ bytes_in (g ∷ gs) = sym (text_bytes (concat p.front)) ∙ ap bytes_in first in
+    let bytes : concat p.front ≡ bytes_of (g ∷ gs) = sym (text_bytes (concat p.front)) ∙ ap bytes_of first in
     record {
       behind = concat p.back;
       parts = sym (concat-lines text) ∙ (ap concat p.parts ∙ (concat-append p.front p.back ∙ ap (λ (bs : List ℕ). bs ++ concat p.back) bytes));

@@ -31,7 +31,8 @@ use Rattle.live_run.specs.declared.line_stop.LineStop.{LineStop}
 use Rattle.live_run.specs.declared.line_stop.LineStop.TheVariants as stop
 use Rattle.live_run.proofs.ComingRead.{AreResults, SaysComing, SaysStop, coming_is}
 use Rattle.live_run.proofs.HeadRead.{EndsHead, HasHead, SaysHead, at_results, head_is, results_row, with_all}
-use Rattle.live_run.proofs.LinesJoined.{IsCut, are_read, both_none, bytes_in, cut_at, faults_joined, none_first, reads_as, rows_joined, text_bytes}
+use Rattle.live_run.specs.Followed.{bytes_of}
+use Rattle.live_run.proofs.LinesJoined.{IsCut, are_read, both_none, cut_at, faults_joined, none_first, reads_as, rows_joined, text_bytes}
 use Rattle.sim_core.specs.LineByLine.{ComesLineByLine}
 use Rattle.sim_core.specs.Replay.{coming_behind, head_in}
 use Rattle.sim_core.proofs.InputSteps.{HasSections, configuration_in, has_sections, head_first, marks_by, status_in, steps_on, with_last, without_last, without_sections}
@@ -165,7 +166,7 @@ module _ (text bytes : List ℕ) (next room : ℕ) (is : head_in text ≡ heads.
   pub rest_is : drop (length bytes) text ≡ behind
   rest_is = ap (drop (length bytes)) parts ∙ drop-append_seam bytes behind
 
-  pub size : length text ≡ length bytes + length (bytes_in (raw_lines behind))
+  pub size : length text ≡ length bytes + length (bytes_of (raw_lines behind))
   size = ap (λ (bs : List ℕ). length bs) parts ∙ (length-append bytes behind ∙ ap (λ (bs : List ℕ). length bytes + length bs) (sym (text_bytes behind)))
 
   pub come_says : (head : Head) → SaysComing head.cluster (moment_of head.journal.events) next [] room (raw_lines behind) (coming_behind text bytes head next room)

@@ -19,10 +19,10 @@ use Rattle.cluster_types.specs.Valid.{KeepsLimits}
 use Rattle.input_reading.specs.FirstJournal.{journal_of}
 use Rattle.input_reading.specs.declared.input.reading.Input.{Input}
 use Rattle.sim_core.specs.Check.{check_text, counts_line, rules_in}
-use Rattle.input_reading.specs.Reading.{ReadsInput, configuration_of, following_lines, head_of, input_of, status_lines, with_cluster, with_results}
+use Rattle.input_reading.specs.Reading.{ReadsInput, following_lines, head_of, input_of, status_lines, with_results}
 use Rattle.input_reading.proofs.ValidInput.{cluster_valid, results_keep_head}
 use Rattle.sim_core.specs.Again.{IsReadAgain}
-use Rattle.sim_core.proofs.InputSteps.{HasGiven, has_given, in_steps}
+use Rattle.sim_core.proofs.InputSteps.{HasGiven, by_sections, has_given, in_steps}
 use Rattle.sim_core.proofs.TraceSections.{nothing_past}
 use Rattle.sim_core.proofs.Comments.{counts, counts-comment}
 use Rattle.cluster_model.proofs.SameCluster.{same-resolution}
@@ -56,20 +56,13 @@ module _ (text : List ℕ) (lines : List Line) (crm : Crm) (leaves : Leaves) (cl
   abbrev pub alone : Input
   alone = record { head = record { crm = crm; cluster = cluster; journal = journal_of cluster [] }; results = [] }
 
-  configuration-is : configuration_of sections_of text ≡ Ok (record { lines = lines; marks = whole_text lines; crm = crm; leaves = leaves })
-  unfolding configuration_of
-  configuration-is =
-      let whole = statements-alone lines crm are_statements in
-      let taken = take-length lines in
-      rw (are_lines, whole, taken, are_statements, are_leaves) refl
-
-  goes-on : with_cluster with_results (record { lines = lines; marks = whole_text lines; crm = crm; leaves = leaves }) cluster ≡ Ok alone
-  unfolding head_of with_results
-  goes-on = let none = nothing_past lines in rw none refl
-
   pub read-alone : ReadsInput text alone
-  unfolding input_of
-  read-alone = let c = configuration-is in let g = goes-on in rw (c, resolves) g
+  unfolding input_of head_of with_results
+  read-alone =
+      let taken = take-length lines in
+      let none = nothing_past lines in
+      by_sections sections_of (λ all. with_results) text lines (whole_text lines) are_lines (statements-alone lines crm are_statements)
+      ∙ rw (taken, none, are_statements, are_leaves, resolves) refl
 
 -- what `check` writes
 module _ (text : List ℕ) (whole : Input) (r : ReadsInput text whole) (short : has_short_lines whole.head.crm ≡ true) where

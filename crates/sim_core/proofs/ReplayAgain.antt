@@ -18,7 +18,8 @@ use Rattle.input_reading.proofs.AnswersFit.{read_answers}
 use Rattle.input_reading.proofs.TextAgain.{text_again}
 use Rattle.input_reading.proofs.ValidInput.{cluster_valid}
 use Rattle.live_run.specs.Ends.{IsWholeText, run_lines_text}
-use Rattle.live_run.proofs.LinesJoined.{AreRead, are_read, both_none, count_physical, faults_joined, lines_clean, none_first, reads_as, rows_joined, same_words}
+use Rattle.crm_lex.proofs.FaultOrder.{count_lines}
+use Rattle.live_run.proofs.LinesJoined.{AreRead, are_read, both_none, faults_joined, lines_clean, none_first, reads_as, rows_joined, same_words}
 use Rattle.written_runs.proofs.ReadFits.{read_few, read_intervals}
 use Rattle.written_runs.proofs.WrittenLines.{told_written}
 use Rattle.sim_core.specs.Audit.{IsLawfulTrace, lawful_text}
@@ -50,7 +51,7 @@ module _ (front results : List ℕ) (head : Head) (next room : ℕ) (b : IsHeadB
   rows = rows_from 1 (raw_lines front)
 
   abbrev n : ℕ
-  n = 1 + count_physical (raw_lines front)
+  n = 1 + count_lines (raw_lines front)
 
   read_head : HasSections sections_of (front ++ results_begin)
   unfolding start_of
