@@ -25,7 +25,7 @@ is_promotion_of_same_cell one other = one.leaf == other.leaf && one.node == othe
 -- the second line says again what may be said once: the moment, quorum, the state of a node, the promotion score of a cell
 abbrev pub is_again : Told → Told → Bool
 is_again (Now before) (Now seconds) = true
-is_again (Quorum before) (Quorum yes) = true
+is_again (Quorum before) (Quorum quorate) = true
 is_again (Node before state) (Node node word) = before == node
 is_again (Promoting before) (Promoting promotion) = is_promotion_of_same_cell before promotion
 is_again _ _ = false
@@ -55,7 +55,7 @@ now_in (Now seconds) = Some seconds
 now_in _ = None
 
 abbrev pub quorum_in : Told → Option Bool
-quorum_in (Quorum yes) = Some yes
+quorum_in (Quorum quorate) = Some quorate
 quorum_in _ = None
 
 -- what a line says of the state of this node

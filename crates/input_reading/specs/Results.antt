@@ -62,9 +62,9 @@ up_line c words = do
 -- `quorum yes` or `quorum no`
 unfoldable pub quorum_answer : WordsOfLine → Result Answer WordCause
 quorum_answer words = do
-  yes ← yes_at 1 words
+  quorate ← yes_at 1 words
   end ← line_end_at 2 words
-  Ok (answer.Quorum yes)
+  Ok (answer.Quorum quorate)
 
 -- the seconds end before the moment 2^40
 abbrev pub in_time : ℕ → ℕ → Result (Unit {0}) WordCause

@@ -49,9 +49,9 @@ now_line words = do
 -- `quorum yes` or `quorum no`
 unfoldable pub quorum_line : WordsOfLine → Result Told WordCause
 quorum_line words = do
-  yes ← yes_at 1 words
+  quorate ← yes_at 1 words
   end ← line_end_at 2 words
-  Ok (Quorum yes)
+  Ok (Quorum quorate)
 
 abbrev pub node_word : List ℕ → Option NodeWord
 node_word word =

@@ -17,5 +17,5 @@ pub mod Held
 pub mod HeadBringing
 pub mod HeadLines
 pub mod LinesJoined
-pub mod AllRead
-pub mod AllTaken
+pub mod HeadRead
+pub mod ComingRead

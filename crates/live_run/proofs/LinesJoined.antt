@@ -1,12 +1,16 @@
 -- What is read of some logical lines before others. Whether they have faults, and which words, doesn't go by the number of the first.
-use Rattle.std.proofs.Common.{arith, ◌≡◌, ◌+◌, ℕ, Bool, true, false, List, [], ◌∷◌, ◌++◌, length, map, append_assoc, Ok, refl, sym, ap, subst, ◌∙◌}
+use Rattle.std.proofs.Common.{arith, ◌≡◌, ◌+◌, ℕ, Bool, true, false, if◌then◌else◌, List, [], ◌∷◌, ◌++◌, length, map, append_assoc, append-nil, Ok, refl, sym, ap, subst, ◌∙◌}
+use Rattle.std.specs.List.{concat}
 use Rattle.std.proofs.lemmas.List.{map-append}
+use Rattle.std.proofs.lemmas.List.Folds.{concat-append}
 use Rattle.crm_lex.specs.LogicalLines.{all_byte_faults, byte_faults, fault_if, faults, line_text}
-use Rattle.crm_lex.specs.RawLines.{raw_lines}
+use Rattle.crm_lex.specs.RawLines.{goes_on, joined, onto_group, physical_lines, raw_lines}
 use Rattle.crm_lex.specs.Reading.{faults_from, first_lex_fault, reads, row, rows_from}
 use Rattle.crm_lex.specs.Words.{words_of}
 use Rattle.crm_lex.specs.declared.fault.LexCause.{LexCause}
 use Rattle.crm_lex.specs.declared.line.Line.{Line}
+use Rattle.crm_lex.proofs.Pieces.{whole_by_pieces}
+use Rattle.crm_lex.proofs.PhysicalLines.{Whole, Whole-back, Whole-front, Whole-physical, concat-lines, lines-concat}
 use Rattle.faults.specs.declared.fault.Fault.{Fault}
 use Rattle.faults.specs.Reading.{unless}
 
@@ -100,3 +104,89 @@ pub reads_as : (text : List ℕ) (groups : List (List (List ℕ))) → raw_lines
 reads_as text groups cut clean =
     ap (λ (gs : List (List (List ℕ))). unless (first_lex_fault (faults_from 1 gs)) (rows_from 1 gs)) cut
     ∙ ap (λ (found : List (Fault LexCause)). unless (first_lex_fault found) (rows_from 1 groups)) clean
+
+-- the bytes of some logical lines
+abbrev pub bytes_in : List (List (List ℕ)) → List ℕ
+bytes_in [] = []
+bytes_in (group ∷ groups) = concat group ++ bytes_in groups
+
+bytes_are : (groups : List (List (List ℕ))) → bytes_in groups ≡ concat (map concat groups)
+bytes_are [] = refl
+bytes_are (group ∷ groups) = ap (λ (bs : List ℕ). concat group ++ bs) (bytes_are groups)
+
+pub text_bytes : (text : List ℕ) → bytes_in (raw_lines text) ≡ text
+text_bytes text = bytes_are (raw_lines text) ∙ whole_by_pieces text
+
+-- physical lines whose logical lines are these and others, are those of both
+record Parted (continues : Bool) (lines : List (List ℕ)) (gs more : List (List (List ℕ))) : Type 0 where
+  front : List (List ℕ)
+  back : List (List ℕ)
+  parts : lines ≡ front ++ back
+  first : joined continues front ≡ gs
+  rest : joined false back ≡ more
+
+parted : (continues : Bool) (lines : List (List ℕ)) (g : List (List ℕ)) (gs more : List (List (List ℕ))) → joined continues lines ≡ g ∷ gs ++ more → Parted continues lines (g ∷ gs) more
+parted continues [] g gs more e = absurd (let f : ⊥ = cc in f)
+parted continues (line ∷ lines) g gs more e = by (goes_on continues line) refl e (λ c g gs. parted c lines g gs more)
+  where
+    Later : Type 0
+    Later = (c : Bool) (g : List (List ℕ)) (gs : List (List (List ℕ))) → joined c lines ≡ g ∷ gs ++ more → Parted c lines (g ∷ gs) more
+
+    behind : (gs : List (List (List ℕ))) → joined false lines ≡ gs ++ more → Later → Parted false lines gs more
+    behind [] e later = record { front = []; back = lines; parts = refl; first = refl; rest = e }
+    behind (g ∷ gs) e later = later false g gs e
+
+    onto : (all : List (List (List ℕ))) → joined true lines ≡ all → goes_on continues line ≡ true → onto_group line all ≡ g ∷ gs ++ more → Later → Parted continues (line ∷ lines) (g ∷ gs) more
+    onto [] is on e later =
+        let none = both_none gs more (let rest : gs ++ more ≡ [] = cc in rest) in
+        let one : line ∷ [] ≡ g = cc in
+        let alone : (line ∷ []) ∷ [] ≡ g ∷ gs = ap (λ (x : List (List ℕ)). x ∷ []) one ∙ ap (λ (xs : List (List (List ℕ))). g ∷ xs) (sym none.0) in
+        record { front = line ∷ lines; back = []; parts = sym (append-nil (line ∷ lines)); first = rw (on, is) alone; rest = sym none.1 }
+    onto (next ∷ others) is on e later =
+        let here : line ∷ next ≡ g = cc in
+        let left : others ≡ gs ++ more = cc in
+        let p = later true next gs (is ∙ ap (λ (xs : List (List (List ℕ))). next ∷ xs) left) in
+        let first = p.first in
+        record {
+          front = line ∷ p.front;
+          back = p.back;
+          parts = ap (λ (ls : List (List ℕ)). line ∷ ls) p.parts;
+          first = rw (on, first) (ap (λ (x : List (List ℕ)). x ∷ gs) here);
+          rest = p.rest;
+        }
+
+    by : (t : Bool) → goes_on continues line ≡ t → (if t then onto_group line (joined true lines) else (line ∷ []) ∷ joined false lines) ≡ g ∷ gs ++ more → Later
+        → Parted continues (line ∷ lines) (g ∷ gs) more
+    by true on e later = onto (joined true lines) refl on e later
+    by false on e later =
+        let here : line ∷ [] ≡ g = cc in
+        let p = behind gs (let left : joined false lines ≡ gs ++ more = cc in left) later in
+        let first = p.first in
+        record {
+          front = line ∷ p.front;
+          back = p.back;
+          parts = ap (λ (ls : List (List ℕ)). line ∷ ls) p.parts;
+          first = rw (on, first) (ap (λ (x : List (List ℕ)). x ∷ gs) here);
+          rest = p.rest;
+        }
+
+-- a text of these logical lines and others: the bytes of the first, and a text of the others behind them
+pub record IsCut (text : List ℕ) (gs more : List (List (List ℕ))) : Type 0 where
+  pub behind : List ℕ
+  pub parts : text ≡ bytes_in gs ++ behind
+  pub first : raw_lines (bytes_in gs) ≡ gs
+  pub rest : raw_lines behind ≡ more
+
+pub cut_at : (text : List ℕ) (gs more : List (List (List ℕ))) → raw_lines text ≡ gs ++ more → IsCut text gs more
+cut_at text [] more e = record { behind = text; parts = refl; first = refl; rest = e }
+cut_at text (g ∷ gs) more e =
+    let p = parted false (physical_lines text) g gs more e in
+    let whole = subst Whole p.parts (Whole-physical text) in
+    let first : raw_lines (concat p.front) ≡ g ∷ gs = ap (joined false) (lines-concat p.front (Whole-front p.front p.back whole)) ∙ p.first in
+    let bytes : concat p.front ≡ bytes_in (g ∷ gs) = sym (text_bytes (concat p.front)) ∙ ap bytes_in first in
+    record {
+      behind = concat p.back;
+      parts = sym (concat-lines text) ∙ (ap concat p.parts ∙ (concat-append p.front p.back ∙ ap (λ (bs : List ℕ). bs ++ concat p.back) bytes));
+      first = subst (λ (bs : List ℕ). raw_lines bs ≡ g ∷ gs) bytes first;
+      rest = ap (joined false) (lines-concat p.back (Whole-back p.front p.back whole)) ∙ p.rest;
+    }

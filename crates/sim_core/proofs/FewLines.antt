@@ -1,13 +1,8 @@
 -- An input within the limit has few lines of a run, and they have few answers.
-use Rattle.std.proofs.Common.{arith, ◌≡◌, ◌≤◌, ◌<◌, ◌+◌, ◌-◌, ◌^◌, ℕ, zero, suc, List, [], ◌∷◌, ◌++◌, length, length-append, take, drop, Ok, refl, sym, ap, subst, ◌∙◌}
+use Rattle.std.proofs.Common.{arith, ◌≡◌, ◌≤◌, ◌<◌, ◌+◌, ◌-◌, ◌^◌, ℕ, zero, suc, List, [], ◌∷◌, ◌++◌, length, length-append, take, drop, Ok, ap, subst}
 use Rattle.std.specs.Prelude.{slice_range}
 use Rattle.std.specs.List.{flat_map}
-use Rattle.std.proofs.lemmas.Grind.{flat_map-append}
 use Rattle.crm_lex.specs.declared.line.Line.{Line}
-use Rattle.crm_lex.specs.Reading.{reads}
-use Rattle.cluster_model.specs.Expansion.{expansion_of}
-use Rattle.cluster_model.specs.Resolution.{resolution_of}
-use Rattle.crm_parse.specs.Statements.{statements_of}
 use Rattle.cluster_types.specs.declared.cluster.Cluster.{Cluster}
 use Rattle.cluster_types.specs.declared.journal.Answer.{Answer}
 use Rattle.cluster_types.specs.declared.run.RunLine.{RunLine}
@@ -17,13 +12,14 @@ use Rattle.input_reading.specs.declared.input.cause.InputCause.TheVariants as ca
 use Rattle.input_reading.specs.declared.input.reading.Head.{Head}
 use Rattle.input_reading.specs.declared.input.trace.Trace.{Trace}
 use Rattle.input_reading.specs.declared.run.text.RunTextLine.{RunTextLine}
-use Rattle.input_reading.specs.Reading.{configuration_lines, configuration_of, following_lines, head_of, line_behind, most_bytes, status_lines}
+use Rattle.input_reading.specs.Reading.{following_lines, line_behind, most_bytes}
 use Rattle.input_reading.specs.RunReading.{text_line, read_run_lines, with_run_lines}
 use Rattle.input_reading.specs.Sections.{sections_with_trace}
 use Rattle.input_reading.specs.Traces.{ReadsTrace, trace_of, with_run}
 use Rattle.input_reading.proofs.FewLines.{few_rows_read}
-use Rattle.input_reading.proofs.ValidInput.{passed, passed_on}
+use Rattle.input_reading.proofs.ValidInput.{passed}
 use Rattle.sim_core.specs.Lawful.{answer_in}
+use Rattle.sim_core.proofs.InputSteps.{in_steps}
 
 -- each line says one thing
 count_run : (c : Cluster) (so_far : List RunTextLine) (lines : List Line) (out : List RunTextLine) → with_run_lines c so_far lines ≡ Ok out
@@ -54,21 +50,12 @@ few_behind after head lines trace e =
     subst (λ (t : Trace). length t.run.lines ≤ length lines) made (omega arith)
 
 few_lines : (text : List ℕ) (trace : Trace) → ReadsTrace text trace → length trace.run.lines ≤ length text
-unfolding trace_of configuration_of
+unfolding trace_of
 few_lines text trace r =
-    let found = passed_on (configuration_of sections_with_trace text) _ trace r in
-    let words = passed cause.Words (reads text) _ found.gave found.is in
-    let marks = passed cause.Statements (sections_with_trace words.gave) _ found.gave words.goes_on in
-    let crm = passed cause.Statements (statements_of (configuration_lines marks.gave words.gave)) _ found.gave marks.goes_on in
-    let leaves = passed cause.Leaves (expansion_of crm.gave.statements) _ found.gave crm.goes_on in
-    let made : found.gave ≡ record { lines = words.gave; marks = marks.gave; crm = crm.gave; leaves = leaves.gave } = cc in
-    let goes_on = rw made at found.goes_on in
-    let cluster = passed cause.Cluster (resolution_of leaves.gave crm.gave.statements) _ trace goes_on in
-    let behind = following_lines marks.gave words.gave in
-    let head = passed_on (head_of crm.gave cluster.gave (status_lines marks.gave words.gave)) (λ (head : Head). with_run (line_behind words.gave) head behind) trace cluster.goes_on in
-    let run = few_behind (line_behind words.gave) head.gave behind trace head.goes_on in
-    let all = few_rows_read text words.gave words.is in
-    let part = few_there words.gave (marks.gave.results_at + 1) marks.gave.end in
+    let s = in_steps sections_with_trace (λ all. with_run (line_behind all)) text trace r in
+    let run = few_behind (line_behind s.found.lines) s.head (following_lines s.found.marks s.found.lines) trace s.follows in
+    let all = few_rows_read text s.found.lines s.found.are in
+    let part = few_there s.found.lines (s.found.marks.results_at + 1) s.found.marks.end in
     omega (arith, run, all, part)
   where
     few_there : (lines : List Line) (from to : ℕ) → length (slice_range lines from to) ≤ length lines

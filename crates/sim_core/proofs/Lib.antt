@@ -25,7 +25,9 @@ pub mod OneFault
 pub mod OwnAnswers
 pub mod TraceSections
 pub mod PlainResults
+pub mod InputSteps
+pub mod InputAgain
+pub mod RefusedAgain
 pub mod TraceRead
 pub mod ReplayAgain
 pub mod WrittenFronts
-pub mod InputAgain

@@ -1,13 +1,11 @@
 -- The sections of a text with a trace in the place of its results.
-use Rattle.std.proofs.Common.{arith, ◌≡◌, ◌⊎◌, inl, inr, ◌<◌, ◌≤◌, ◌+◌, ◌-◌, ◌==◌, ◌&&◌, ◌||◌, not, min, ℕ, zero, suc, Bool, true, false, if◌then◌else◌, List, [], ◌∷◌, ◌++◌, length, length-append, take, drop, codes, append_assoc, append-nil, Ok, refl, sym, ap, subst, ◌∙◌}
-use Rattle.std.specs.Prelude.{Option, Some, None, slice_range}
+use Rattle.std.proofs.Common.{arith, ◌≡◌, ◌⊎◌, inl, inr, ◌<◌, ◌≤◌, ◌+◌, ◌-◌, ◌==◌, ◌&&◌, ◌||◌, not, min, ℕ, Bool, true, false, if◌then◌else◌, List, [], ◌∷◌, ◌++◌, length, length-append, take, drop, codes, append_assoc, append-nil, refl, sym, ap, subst, ◌∙◌}
+use Rattle.std.specs.Prelude.{Some, None, slice_range}
 use Rattle.std.specs.List.{list_any, position_or_len}
 use Rattle.std.proofs.lemmas.Bool.{or_parts}
 use Rattle.std.proofs.lemmas.Bool.{cases_lt}
 use Rattle.std.proofs.Math.Seq.{drop-append_seam, take-append_seam, take-length}
-use Rattle.std.proofs.lemmas.List.{drop-append-le, length-drop, take_all}
-use Rattle.std.proofs.lemmas.List.Folds.{list_any-append}
-use Rattle.crm_lex.specs.Names.{is}
+use Rattle.std.proofs.lemmas.List.{drop-append-le, length-drop}
 use Rattle.crm_lex.specs.declared.line.Line.{Line}
 use Rattle.crm_parse.specs.Marks.{begins_with, first_word, is_in_place, is_mark, misplaced}
 use Rattle.crm_parse.proofs.Binds.{is-true}
@@ -107,6 +105,17 @@ module _ (last : List ℕ) where
           let parts = later e in
           (parts.0, subst (λ (ls : List Line). misplaced last ls ys ≡ None) (append_assoc before (x ∷ []) xs) parts.1)
 
+  -- the first that is out of its place is that of all lines
+  pub misplaced_first : (before xs ys : List Line) (line : ℕ) → misplaced last before xs ≡ Some line → misplaced last before (xs ++ ys) ≡ Some line
+  misplaced_first before [] ys line e = absurd (let f : ⊥ = cc in f)
+  misplaced_first before (x ∷ xs) ys line e = by (is_mark x && not (is_in_place last before x)) e (misplaced_first (before ++ x ∷ []) xs ys line)
+    where
+      by : (c : Bool) → (if c then Some x.line else misplaced last (before ++ x ∷ []) xs) ≡ Some line
+          → (misplaced last (before ++ x ∷ []) xs ≡ Some line → misplaced last (before ++ x ∷ []) (xs ++ ys) ≡ Some line)
+          → (if c then Some x.line else misplaced last (before ++ x ∷ []) (xs ++ ys)) ≡ Some line
+      by true e later = e
+      by false e later = later e
+
 -- the first of some elements that passes, where others stand behind them
 module _ {X : Type 0} (p : X → Bool) where
   pub first_within : (xs : List X) → position_or_len p xs ≤ length xs
@@ -163,3 +172,7 @@ range_behind xs y ys =
     let all = length-append xs (y ∷ ys) in
     let size : length (xs ++ y ∷ ys) - (length xs + 1) ≡ length ys = omega (arith, all) in
     rw (rest, size) (take-length ys)
+
+-- nothing stands past the end
+pub nothing_past : {X : Type 0} (xs : List X) → slice_range xs (length xs + 1) (length xs) ≡ []
+nothing_past xs = let none : length xs - (length xs + 1) ≡ 0 = omega arith in rw none refl

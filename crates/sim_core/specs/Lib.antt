@@ -11,6 +11,7 @@ pub mod Generated
 pub mod World
 pub mod SafeTexts
 pub mod Replay
+pub mod LineByLine
 pub mod Traced
 pub mod Headline
 pub mod Live

@@ -1,9 +1,8 @@
 -- A run that `replay` has written, in the place of the results that it was written for (rule of this project).
-use Rattle.std.specs.Prelude.{◌≡◌, ℕ, None, List, ◌++◌, codes}
+use Rattle.std.specs.Prelude.{◌≡◌, ℕ, List, ◌++◌, codes}
 use Rattle.crm_lex.specs.RawLines.{raw_lines}
 use Rattle.input_reading.specs.declared.input.reading.Head.{Head}
-use Rattle.input_reading.specs.declared.input.reading.Input.{Input}
-use Rattle.sim_core.specs.Replay.{IsBegun, coming_behind}
+use Rattle.sim_core.specs.Replay.{IsBegun}
 
 -- a text is made of whole lines: what stands behind it begins a line of its own
 abbrev pub AreWholeLines : List ℕ → Type 0
@@ -27,10 +26,3 @@ with_trace_section front trace = (front ++ trace_begins) ++ trace
 pub record IsHeadBefore (front results : List ℕ) (head : Head) (next room : ℕ) : Type 0 where
   pub whole_lines : AreWholeLines front
   pub begun : IsBegun (with_result_section front results) (front ++ results_begin) head next room
-
--- the head of the input is that of this one, and behind it come its answers, and no line that is refused or goes past the limit
-pub record ComesLineByLine (front results : List ℕ) (whole : Input) : Type 0 where
-  pub next : ℕ
-  pub room : ℕ
-  pub before : IsHeadBefore front results whole.head next room
-  pub all : coming_behind (with_result_section front results) (front ++ results_begin) whole.head next room ≡ record { results = whole.results; stop = None }

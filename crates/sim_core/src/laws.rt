@@ -1,12 +1,14 @@
 //! Laws of the definitions. Each is a function that does nothing, and whose contract is the law.
 
-ghost use Rattle.std.specs.Prelude.{◌≡◌, ◌≢◌, ◌≤◌, ◌++◌, ℕ, Some, None, List, length, true};
+ghost use Rattle.std.specs.Prelude.{◌≡◌, ◌≢◌, ◌≤◌, ◌↔◌, ℕ, Some, List, length, true};
 ghost use Rattle.cluster_types.specs.declared.cluster.Cluster.{Cluster as ClusterOf};
 ghost use Rattle.cluster_types.specs.declared.journal.Journal.{Journal as JournalOf};
 ghost use Rattle.cluster_types.specs.Valid.{IsValid};
+ghost use Rattle.crm_lex.specs.declared.fault.LexCause.{LexCause as LexCauseOf};
 ghost use Rattle.crm_print.specs.Again.{has_short_lines};
-ghost use Rattle.input_reading.specs.Reading.{ReadsInput, most_bytes};
-ghost use Rattle.input_reading.specs.declared.input.reading.Head.{Head as HeadOf};
+ghost use Rattle.input_reading.specs.Reading.{IsFaultyText, IsTextRefused, ReadsInput, most_bytes};
+ghost use Rattle.input_reading.specs.declared.input.cause.InputCause.{InputCause as CauseOf};
+ghost use Rattle.input_reading.specs.declared.input.cause.InputCause.TheVariants.{Words};
 ghost use Rattle.input_reading.specs.declared.input.reading.Input.{Input as InputOf};
 ghost use Rattle.live_run.specs.Coming.{Coming};
 ghost use Rattle.live_run.specs.Ends.{IsDueText};
@@ -16,9 +18,9 @@ ghost use Rattle.sim_core.specs.Again.{IsReadAgain};
 ghost use Rattle.sim_core.specs.Check.{check_text};
 ghost use Rattle.sim_core.specs.Generated.{IsSummaryText};
 ghost use Rattle.sim_core.specs.Headline.{IsSafeOutput};
-ghost use Rattle.sim_core.specs.Replay.{IsReplayOutput, coming_behind};
+ghost use Rattle.sim_core.specs.Replay.{IsReplayOutput};
+ghost use Rattle.sim_core.specs.LineByLine.{ComesLineByLine, HasPlainRest, HasRefusedLine, IsRefusedByLine};
 ghost use Rattle.sim_core.specs.SafeTexts.{IsSummaryOfSafeRun, IsTextOfSafeWorld};
-ghost use Rattle.sim_core.specs.Traced.{AreWholeLines, ComesLineByLine, IsHeadBefore, results_begin, with_result_section};
 ghost use Rattle.sim_core.specs.World.{IsWorldOf};
 ghost use Rattle.sim_core.specs.declared.status.Status.{Status as StatusOf};
 
@@ -58,13 +60,15 @@ pub fn summaries_are_unique()
     ensures { (number : ℕ) (whole : InputOf) (text other : List ℕ) → IsSummaryText number whole text → IsSummaryText number whole other → text ≡ other }
 {}
 
-/// What `replay` takes from its input line by line is what the other words read of it whole: where no line behind the head is refused or goes past the limit,
-/// the input is read as the same head, and as the answers that came. And of an input that is read whole, within the limit of bytes, just these come.
+/// An accepted input is one notion, with and without `%status` and `%results`: what `replay` takes from an input line by line is what the other words read of it
+/// whole within the limit of bytes, the same cluster, first journal and answers. Within the limit both refuse the same inputs. They name the same line and cause
+/// where the line can't be cut into words, and where no line behind the head is at fault in this or begins with a percent sign. Words that read an input whole
+/// look for such lines in all of it first: where `%results` stands on line 4, `lost nowhere` on line 5 and an open quote on line 9, they name line 9, and `replay`
+/// line 5. What a run asks for is another matter: one that an unexpected answer cuts, or that has to stop for memory or a failed write, leaves the lines behind
+/// unread, whatever they say.
 pub fn what_comes_is_the_input()
-    ensures comes { (front results : List ℕ) (whole : InputOf) → AreWholeLines front → ReadsInput (with_result_section front results) whole
-        → length (with_result_section front results) ≤ most_bytes → ComesLineByLine front results whole }
-    ensures is_input { (front results : List ℕ) (head : HeadOf) (next room : ℕ) → IsHeadBefore front results head next room
-        → (coming_behind (with_result_section front results) (front ++ results_begin) head next room).stop ≡ None
-        → ReadsInput (with_result_section front results)
-        (record { head = head; results = (coming_behind (with_result_section front results) (front ++ results_begin) head next room).results }) }
+    ensures accepted { (input : List ℕ) (whole : InputOf) → ((ReadsInput input whole) × (length input ≤ most_bytes)) ↔ ComesLineByLine input whole }
+    ensures refused { (input : List ℕ) → length input ≤ most_bytes → IsFaultyText input ↔ HasRefusedLine input }
+    ensures same_words { (input : List ℕ) (line : ℕ) (why : LexCauseOf) → IsRefusedByLine input line (Words why) → IsTextRefused input line (Words why) }
+    ensures same_fault { (input : List ℕ) (line : ℕ) (why : CauseOf) → IsRefusedByLine input line why → HasPlainRest input → IsTextRefused input line why }
 {}

@@ -52,12 +52,12 @@ pub lines_of_three : {Y : Type 0} (text : Y → List ℕ) (first second third : 
 lines_of_three text first second third =
     flat_map-append text (first ++ second) third ∙ ap (λ t. t ++ flat_map text third) (flat_map-append text first second)
 
--- the text of six parts, one behind the other
-module _ (old one two three four five six first second third fourth fifth last : List ℕ) where
-  pub six_more : one ≡ old ++ first → two ≡ one ++ second → three ≡ two ++ third → four ≡ three ++ fourth → five ≡ four ++ fifth → six ≡ five ++ last
-      → six ≡ old ++ (first ++ second ++ third ++ fourth ++ fifth ++ last)
-  six_more a b d e f g =
-      g ∙ ap (λ t. t ++ last) (f ∙ ap (λ t. t ++ fifth) (e ∙ ap (λ t. t ++ fourth) (d ∙ ap (λ t. t ++ third) (b ∙ ap (λ t. t ++ second) a)))) ∙ simp append_assoc
+-- the text of five parts, one behind the other
+module _ (old one two three four five first second third fourth last : List ℕ) where
+  pub five_more : one ≡ old ++ first → two ≡ one ++ second → three ≡ two ++ third → four ≡ three ++ fourth → five ≡ four ++ last
+      → five ≡ old ++ (first ++ second ++ third ++ fourth ++ last)
+  five_more a b d e f =
+      f ∙ ap (λ t. t ++ last) (e ∙ ap (λ t. t ++ fourth) (d ∙ ap (λ t. t ++ third) (b ∙ ap (λ t. t ++ second) a))) ∙ simp append_assoc
 
 -- the text of a first line, and of three lists of lines
 pub lines_of_passed : {Y : Type 0} (text : Y → List ℕ) (first : Y) (goals events ends : List Y) (old one two three four : List ℕ)
@@ -83,18 +83,3 @@ pub lines_of_two : {Y : Type 0} (text : Y → List ℕ) (first second : List Y) 
 lines_of_two text first second old one two a b =
     b ∙ ap (λ t. t ++ flat_map text second) a ∙ append_assoc old (flat_map text first) (flat_map text second)
     ∙ ap (λ t. old ++ t) (sym (flat_map-append text first second))
-
--- what is kept once bytes are put in turn
-module _ (more : List ℕ → List ℕ → List ℕ) (in_turn : (old first then : List ℕ) → more (more old first) then ≡ more old (first ++ then)) where
-  pub put_more : (old new first then : List ℕ) → new ≡ more old first → more new then ≡ more old (first ++ then)
-  put_more old new first then is = ap (λ (t : List ℕ). more t then) is ∙ in_turn old first then
-
-  pub put_three : (old one two three first second third : List ℕ) → one ≡ more old first → two ≡ more one second → three ≡ more two third
-      → three ≡ more old (first ++ second ++ third)
-  put_three old one two three first second third a b d =
-      d ∙ ap (λ (t : List ℕ). more t third) (b ∙ put_more old one first second a) ∙ in_turn old (first ++ second) third
-
-  pub put_four : (old one two three four first second third last : List ℕ) → one ≡ more old first → two ≡ more one second → three ≡ more two third
-      → four ≡ more three last → four ≡ more old (first ++ second ++ third ++ last)
-  put_four old one two three four first second third last a b d e =
-      e ∙ ap (λ (t : List ℕ). more t last) (put_three old one two three first second third a b d) ∙ in_turn old (first ++ second ++ third) last

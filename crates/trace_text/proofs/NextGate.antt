@@ -10,7 +10,7 @@ use Rattle.cluster_types.specs.Graphs.{LeadUpward}
 use Rattle.edges.specs.Loops.{EndsWithin}
 use Rattle.cluster_types.specs.Inner.Walks.{joins}
 use Rattle.listed.specs.Sets.{is_member, members}
-use Rattle.trace_text.specs.declared.found.Found.{Found}
+use Rattle.trace_text.specs.declared.found_actions.Found.{Found}
 use Rattle.trace_text.specs.Inner.Backward.{IsOnTheWay}
 use Rattle.trace_text.specs.Inner.Found.{PositionsHaveRoom, SameSizes, is_found}
 use Rattle.trace_text.proofs.Backward.{gate_passed, on_the_way_first, source_below}

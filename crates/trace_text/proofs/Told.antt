@@ -6,7 +6,7 @@ use Rattle.cluster_types.specs.Graphs.{GraphOf, IsGraph, is_before}
 use Rattle.cluster_types.proofs.Paths.{before-from_computed, before-computed}
 use Rattle.cluster_types.proofs.Walks.{numbered}
 use Rattle.listed.specs.Sets.{is_member, members}
-use Rattle.trace_text.specs.declared.found.Found.{Found}
+use Rattle.trace_text.specs.declared.found_actions.Found.{Found}
 use Rattle.trace_text.specs.Inner.Backward.{IsOnTheWay}
 use Rattle.trace_text.specs.Inner.Found.{PositionsHaveRoom, is_found}
 use Rattle.trace_text.specs.Inner.Walk.{befores}

@@ -7,20 +7,13 @@ ghost use Rattle.cluster_types.specs.declared.journal.Action.{Action as ActionOf
 ghost use Rattle.cluster_types.specs.Graphs.{is_before};
 ghost use Rattle.cluster_types.specs.Texts as texts;
 
-use crate::numbers::push_number;
+use crate::line_text::LineText;
+use crate::numbers::put_numbered;
 use crate::run_lines::put_action;
 use crate::walk::Predecessors;
 use cluster_types::{Cluster, Graph};
 use faults::NoMemory;
 use std::alloc::Global;
-
-/// A space, and the number.
-fn push_spaced(text: &mut Vec<u8>, number: u32) -> Result<(), NoMemory>
-    ensures { OnOk result (text.new.items ≡ text.old.items ++ (codes " " ++ decimal number)) }
-{
-    text.extend_from_slice(b" ")?;
-    push_number(text, number)
-}
 
 /// The numbers that are still to be told.
 fn push_all(text: &mut Vec<u8>, before: &mut Predecessors<'_>) -> Result<(), NoMemory>
@@ -28,7 +21,7 @@ fn push_all(text: &mut Vec<u8>, before: &mut Predecessors<'_>) -> Result<(), NoM
     ensures graph { before.new.graph ≡ before.old.graph }
 {
     while let Some(number) = before.next() {
-        push_spaced(text, number)?;
+        put_numbered(text, b" ", number as u64)?;
     }
     Ok(())
 }
@@ -41,8 +34,8 @@ fn push_after(text: &mut Vec<u8>, before: &mut Predecessors<'_>) -> Result<(), N
     let Some(first) = before.next() else {
         return Ok(());
     };
-    text.extend_from_slice(b" after")?;
-    push_spaced(text, first)?;
+    text.put(b" after")?;
+    put_numbered(text, b" ", first as u64)?;
     push_all(text, before)
 }
 
@@ -59,13 +52,12 @@ fn push_line(
         ≡ text.old.items ++ texts.graph_line cluster.now (is_before before.old.graph) (length before.old.graph.actions) (number, action)) }
     ensures graph { before.new.graph ≡ before.old.graph }
 {
-    text.extend_from_slice(b"action ")?;
-    push_number(text, number)?;
-    text.extend_from_slice(b" ")?;
+    put_numbered(text, b"action ", number as u64)?;
+    text.put(b" ")?;
     put_action(text, cluster, before.graph().action(number))?;
     before.walk_to(number);
     push_after(text, before)?;
-    text.extend_from_slice(b"\n")?;
+    text.put(b"\n")?;
     Ok(())
 }
 

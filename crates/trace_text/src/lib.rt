@@ -7,7 +7,7 @@ mod numbers;
 
 // Which actions of a graph come before one.
 mod arriving;
-mod found;
+mod found_actions;
 mod walk;
 
 // The lines of each text.

@@ -4,7 +4,7 @@ ghost use Rattle.std.specs.Prelude.{◌≡◌, ◌≤◌, ◌+◌, ◌++◌, [],
 ghost use Rattle.trace_text.specs.Inner.Room.{taken_in_turn};
 
 use crate::line_text::LineText;
-use faults::NoMemory;
+use std::convert::Infallible;
 use std::marker::Model;
 
 /// How many bytes a line may have.
@@ -76,15 +76,15 @@ impl LineBuf {
 
 /// It keeps the first 1,024 bytes.
 impl LineText for LineBuf {
+    type Error = Infallible;
+
     ghost kept = { λ line. line };
 
     ghost more = { λ old bytes. take 1024 (old ++ bytes) };
 
-    ghost may_fail = { ⊥ };
-
     ghost in_turn = { taken_in_turn 1024 };
 
-    fn put(&mut self, bytes: &[u8]) -> Result<(), NoMemory> {
+    fn put(&mut self, bytes: &[u8]) -> Result<(), Infallible> {
         let count = self.room().min(bytes.len());
         self.add(&bytes[..count]);
         Ok(())

@@ -4,7 +4,8 @@ ghost use Rattle.std.specs.Prelude.{◌≡◌, ◌++◌, IfOk, OnOk};
 ghost use Rattle.cluster_types.specs.Valid.{KeepsLimits};
 ghost use Rattle.trace_text.specs.Losses as losses;
 
-use crate::names::node_name;
+use crate::line_text::LineText;
+use crate::names::put_node;
 use crate::target_walk::push_targets;
 use cluster_types::{Cluster, Loss, Report};
 use faults::NoMemory;
@@ -15,9 +16,8 @@ fn push_loss(text: &mut Vec<u8>, cluster: &Cluster, loss: &Loss) -> Result<(), N
     requires { KeepsLimits cluster.now }
     ensures { OnOk result (text.new.items ≡ text.old.items ++ losses.loss_lines cluster.now loss.now) }
 {
-    text.extend_from_slice(b"loss ")?;
-    text.extend_from_slice(node_name(cluster, loss.node as usize))?;
-    text.extend_from_slice(b"\n")?;
+    put_node(text, cluster, b"loss ", loss.node)?;
+    text.put(b"\n")?;
     push_targets(
         text,
         cluster,

@@ -1,19 +1,18 @@
 //! The lines of a run.
 
-ghost use Rattle.std.specs.Prelude.{◌≡◌, ◌<◌, ◌≤◌, ◌++◌, codes, decimal, length, OnErr, OnOk};
-ghost use Rattle.cluster_types.specs.declared.cluster.Cluster.{Cluster as ClusterOf};
+ghost use Rattle.std.specs.Prelude.{◌≡◌, ◌<◌, ◌≤◌, ◌++◌, codes, decimal, length, OnOk};
 ghost use Rattle.cluster_types.specs.Fields.{leaf_name};
+ghost use Rattle.cluster_types.specs.declared.run.RunLine.TheVariants as line;
 ghost use Rattle.cluster_types.specs.Texts as texts;
 ghost use Rattle.trace_text.specs.RunLines.{HasName, HasShortNames, lent_line};
 
 use crate::line_buf::LineBuf;
 use crate::line_text::LineText;
-use crate::names::{node_name, put_leaf_on};
-use crate::numbers::put_number;
+use crate::names::{node_name, put_leaf, put_node, put_on};
+use crate::numbers::{put_number, put_number_line, put_numbered};
 use crate::run_line_ref::RunLineRef;
 use crate::short_numbers::{line_is_short, number_is_short};
 use cluster_types::{Action, Answer, Cluster, LeafId, NoReason, NodeId, Op, Pin, Target};
-use faults::NoMemory;
 
 /// The word of an operation, with a space behind it.
 fn op_word(op: Op) -> &'static [u8]
@@ -28,65 +27,6 @@ fn op_word(op: Op) -> &'static [u8]
     }
 }
 
-/// Why a leaf is left as it is.
-fn pin_word(pin: Pin) -> &'static [u8]
-    ensures { (c : ClusterOf) → result.now ≡ texts.pin_text c pin }
-{
-    match pin {
-        Pin::Unmanaged => b"unmanaged",
-        Pin::Blocked => b"blocked",
-    }
-}
-
-/// What a leaf does where it goes.
-fn target_word(target: Target) -> &'static [u8]
-    ensures { (c : ClusterOf) → result.now ≡ texts.target_text c target }
-{
-    match target {
-        Target::Nowhere => b"nowhere",
-        Target::Started => b"started",
-        Target::Promoted => b"promoted",
-    }
-}
-
-/// A word, and a number.
-fn put_numbered<T: LineText>(text: &mut T, word: &[u8], number: u64) -> Result<(), NoMemory>
-    ensures text { OnOk result (T.kept text.new ≡ T.more (T.kept text.old) (word.now ++ decimal number)) }
-    ensures fails { OnErr result T.may_fail }
-{
-    text.put(word)?;
-    put_number(text, number)
-}
-
-/// A word, and the name of a node.
-fn put_node<T: LineText>(
-    text: &mut T,
-    cluster: &Cluster,
-    word: &[u8],
-    node: NodeId,
-) -> Result<(), NoMemory>
-    ensures text { OnOk result (T.kept text.new ≡ T.more (T.kept text.old) (word.now ++ texts.node_name cluster.now node)) }
-    ensures fails { OnErr result T.may_fail }
-{
-    text.put(word)?;
-    text.put(node_name(cluster, node as usize))
-}
-
-/// A word, and the leaf on the node.
-fn put_on<T: LineText>(
-    text: &mut T,
-    cluster: &Cluster,
-    word: &[u8],
-    leaf: LeafId,
-    node: NodeId,
-) -> Result<(), NoMemory>
-    ensures text { OnOk result (T.kept text.new ≡ T.more (T.kept text.old) (word.now ++ texts.leaf_on cluster.now leaf node)) }
-    ensures fails { OnErr result T.may_fail }
-{
-    text.put(word)?;
-    put_leaf_on(text, cluster, leaf, node as usize)
-}
-
 /// A word, the leaf on the node, and where it is moved to or from.
 fn put_move<T: LineText>(
     text: &mut T,
@@ -95,10 +35,9 @@ fn put_move<T: LineText>(
     leaf: LeafId,
     source: NodeId,
     target: NodeId,
-) -> Result<(), NoMemory>
-    ensures text { OnOk result (T.kept text.new ≡ T.more (T.kept text.old)
+) -> Result<(), T::Error>
+    ensures { OnOk result (T.kept text.new ≡ T.more (T.kept text.old)
         (word.now ++ texts.leaf_on cluster.now leaf source ++ codes " " ++ texts.node_name cluster.now target)) }
-    ensures fails { OnErr result T.may_fail }
 {
     put_on(text, cluster, word, leaf, source)?;
     text.put(b" ")?;
@@ -112,10 +51,9 @@ fn put_monitor<T: LineText>(
     leaf: LeafId,
     node: NodeId,
     interval_ms: u32,
-) -> Result<(), NoMemory>
-    ensures text { OnOk result (T.kept text.new ≡ T.more (T.kept text.old)
+) -> Result<(), T::Error>
+    ensures { OnOk result (T.kept text.new ≡ T.more (T.kept text.old)
         (codes "monitor " ++ texts.leaf_on cluster.now leaf node ++ codes " " ++ decimal interval_ms)) }
-    ensures fails { OnErr result T.may_fail }
 {
     put_on(text, cluster, b"monitor ", leaf, node)?;
     text.put(b" ")?;
@@ -127,9 +65,8 @@ pub(crate) fn put_action<T: LineText>(
     text: &mut T,
     cluster: &Cluster,
     action: Action,
-) -> Result<(), NoMemory>
-    ensures text { OnOk result (T.kept text.new ≡ T.more (T.kept text.old) (texts.action_text cluster.now action)) }
-    ensures fails { OnErr result T.may_fail }
+) -> Result<(), T::Error>
+    ensures { OnOk result (T.kept text.new ≡ T.more (T.kept text.old) (texts.action_text cluster.now action)) }
 {
     match action {
         Action::Fence { node } => put_node(text, cluster, b"fence ", node),
@@ -156,10 +93,9 @@ pub(crate) fn put_action<T: LineText>(
 }
 
 /// An action has ended with the code.
-fn put_end<T: LineText>(text: &mut T, number: u32, code: u8) -> Result<(), NoMemory>
-    ensures text { OnOk result (T.kept text.new
+fn put_end<T: LineText>(text: &mut T, number: u32, code: u8) -> Result<(), T::Error>
+    ensures { OnOk result (T.kept text.new
         ≡ T.more (T.kept text.old) (codes "end " ++ decimal number ++ codes " " ++ decimal code)) }
-    ensures fails { OnErr result T.may_fail }
 {
     put_numbered(text, b"end ", number as u64)?;
     text.put(b" ")?;
@@ -174,11 +110,10 @@ fn put_report<T: LineText>(
     leaf: LeafId,
     interval_ms: u32,
     code: u8,
-) -> Result<(), NoMemory>
-    ensures text { OnOk result (T.kept text.new ≡ T.more (T.kept text.old)
+) -> Result<(), T::Error>
+    ensures { OnOk result (T.kept text.new ≡ T.more (T.kept text.old)
         (codes "report " ++ texts.node_name cluster.now node ++ codes " " ++ leaf_name cluster.now leaf
         ++ codes " " ++ decimal interval_ms ++ codes " " ++ decimal code)) }
-    ensures fails { OnErr result T.may_fail }
 {
     put_node(text, cluster, b"report ", node)?;
     text.put(b" ")?;
@@ -190,9 +125,8 @@ fn put_report<T: LineText>(
 }
 
 /// An answer, as a result line says it.
-fn put_answer<T: LineText>(text: &mut T, cluster: &Cluster, answer: Answer) -> Result<(), NoMemory>
-    ensures text { OnOk result (T.kept text.new ≡ T.more (T.kept text.old) (texts.answer_text cluster.now answer)) }
-    ensures fails { OnErr result T.may_fail }
+fn put_answer<T: LineText>(text: &mut T, cluster: &Cluster, answer: Answer) -> Result<(), T::Error>
+    ensures { OnOk result (T.kept text.new ≡ T.more (T.kept text.old) (texts.answer_text cluster.now answer)) }
 {
     match answer {
         Answer::End { number, code } => put_end(text, number, code),
@@ -217,15 +151,17 @@ fn put_pinned<T: LineText>(
     cluster: &Cluster,
     leaf: LeafId,
     pin: Pin,
-) -> Result<(), NoMemory>
-    ensures text { OnOk result (T.kept text.new ≡ T.more (T.kept text.old)
-        (codes "pinned " ++ leaf_name cluster.now leaf ++ codes " " ++ texts.pin_text cluster.now pin)) }
-    ensures fails { OnErr result T.may_fail }
+) -> Result<(), T::Error>
+    ensures { OnOk result (T.kept text.new ≡ T.more (T.kept text.old) (texts.run_line cluster.now (line.Pinned leaf pin))) }
 {
-    text.put(b"pinned ")?;
-    text.put(cluster.leaf_name(leaf))?;
+    put_leaf(text, cluster, b"pinned ", leaf)?;
     text.put(b" ")?;
-    text.put(pin_word(pin))
+    let word: &[u8] = match pin {
+        Pin::Unmanaged => b"unmanaged",
+        Pin::Blocked => b"blocked",
+    };
+    text.put(word)?;
+    text.put(b"\n")
 }
 
 /// Where a leaf goes.
@@ -235,20 +171,27 @@ fn put_goal<T: LineText>(
     leaf: LeafId,
     node: NodeId,
     target: Target,
-) -> Result<(), NoMemory>
-    ensures text { OnOk result (T.kept text.new ≡ T.more (T.kept text.old)
-        (codes "target " ++ texts.leaf_on cluster.now leaf node ++ codes " " ++ texts.target_text cluster.now target)) }
-    ensures fails { OnErr result T.may_fail }
+) -> Result<(), T::Error>
+    ensures { OnOk result (T.kept text.new ≡ T.more (T.kept text.old) (texts.run_line cluster.now (line.Goal leaf node target))) }
 {
     put_on(text, cluster, b"target ", leaf, node)?;
     text.put(b" ")?;
-    text.put(target_word(target))
+    let word: &[u8] = match target {
+        Target::Nowhere => b"nowhere",
+        Target::Started => b"started",
+        Target::Promoted => b"promoted",
+    };
+    text.put(word)?;
+    text.put(b"\n")
 }
 
 /// A reason why a leaf has no target.
-fn put_reason<T: LineText>(text: &mut T, reason: &NoReason) -> Result<(), NoMemory>
-    ensures text { OnOk result ((c : ClusterOf) → T.kept text.new ≡ T.more (T.kept text.old) (texts.reason_text c reason.now)) }
-    ensures fails { OnErr result T.may_fail }
+fn put_reason<T: LineText>(
+    text: &mut T,
+    cluster: &Cluster,
+    reason: &NoReason,
+) -> Result<(), T::Error>
+    ensures { OnOk result (T.kept text.new ≡ T.more (T.kept text.old) (texts.reason_text cluster.now reason.now)) }
 {
     match reason {
         NoReason::NoCopies => text.put(b"NoCopies"),
@@ -270,15 +213,13 @@ fn put_lacking<T: LineText>(
     cluster: &Cluster,
     leaf: LeafId,
     reason: &NoReason,
-) -> Result<(), NoMemory>
-    ensures text { OnOk result (T.kept text.new ≡ T.more (T.kept text.old)
-        (codes "none " ++ leaf_name cluster.now leaf ++ codes " " ++ texts.reason_text cluster.now reason.now)) }
-    ensures fails { OnErr result T.may_fail }
+) -> Result<(), T::Error>
+    ensures { OnOk result (T.kept text.new ≡ T.more (T.kept text.old) (texts.run_line cluster.now (line.Lacking leaf reason.now))) }
 {
-    text.put(b"none ")?;
-    text.put(cluster.leaf_name(leaf))?;
+    put_leaf(text, cluster, b"none ", leaf)?;
     text.put(b" ")?;
-    put_reason(text, reason)
+    put_reason(text, cluster, reason)?;
+    text.put(b"\n")
 }
 
 /// An action begins.
@@ -287,36 +228,21 @@ fn put_begin<T: LineText>(
     cluster: &Cluster,
     number: u32,
     action: Action,
-) -> Result<(), NoMemory>
-    ensures text { OnOk result (T.kept text.new ≡ T.more (T.kept text.old)
-        (codes "begin " ++ decimal number ++ codes " " ++ texts.action_text cluster.now action)) }
-    ensures fails { OnErr result T.may_fail }
+) -> Result<(), T::Error>
+    ensures { OnOk result (T.kept text.new ≡ T.more (T.kept text.old) (texts.run_line cluster.now (line.Begin number action))) }
 {
     put_numbered(text, b"begin ", number as u64)?;
     text.put(b" ")?;
-    put_action(text, cluster, action)
+    put_action(text, cluster, action)?;
+    text.put(b"\n")
 }
 
-/// A line without its line feed.
-fn put_words<T: LineText>(
-    text: &mut T,
-    cluster: &Cluster,
-    what: &RunLineRef<'_>,
-) -> Result<(), NoMemory>
-    ensures text { OnOk result (T.more (T.kept text.new) (codes "\n") ≡ T.more (T.kept text.old) (texts.run_line cluster.now (lent_line what.now))) }
-    ensures fails { OnErr result T.may_fail }
+/// An answer that was taken.
+fn put_taken<T: LineText>(text: &mut T, cluster: &Cluster, answer: Answer) -> Result<(), T::Error>
+    ensures { OnOk result (T.kept text.new ≡ T.more (T.kept text.old) (texts.run_line cluster.now (line.Taken answer))) }
 {
-    match *what {
-        RunLineRef::Transition(number) => put_numbered(text, b"transition ", number as u64),
-        RunLineRef::Pinned(leaf, pin) => put_pinned(text, cluster, leaf, pin),
-        RunLineRef::Goal(leaf, node, target) => put_goal(text, cluster, leaf, node, target),
-        RunLineRef::Lacking(leaf, reason) => put_lacking(text, cluster, leaf, reason),
-        RunLineRef::Begin(number, action) => put_begin(text, cluster, number, action),
-        RunLineRef::Taken(answer) => put_answer(text, cluster, answer),
-        RunLineRef::Complete(number) => put_numbered(text, b"complete ", number as u64),
-        RunLineRef::Aborted(number) => put_numbered(text, b"aborted ", number as u64),
-        RunLineRef::Unexpected(line) => put_numbered(text, b"unexpected ", line as u64),
-    }
+    put_answer(text, cluster, answer)?;
+    text.put(b"\n")
 }
 
 /// The line of a run, with its line feed.
@@ -324,12 +250,20 @@ pub(crate) fn put_line<T: LineText>(
     text: &mut T,
     cluster: &Cluster,
     line: &RunLineRef<'_>,
-) -> Result<(), NoMemory>
-    ensures text { OnOk result (T.kept text.new ≡ T.more (T.kept text.old) (texts.run_line cluster.now (lent_line line.now))) }
-    ensures fails { OnErr result T.may_fail }
+) -> Result<(), T::Error>
+    ensures { OnOk result (T.kept text.new ≡ T.more (T.kept text.old) (texts.run_line cluster.now (lent_line line.now))) }
 {
-    put_words(text, cluster, line)?;
-    text.put(b"\n")
+    match *line {
+        RunLineRef::Transition(number) => put_number_line(text, b"transition ", number),
+        RunLineRef::Pinned(leaf, pin) => put_pinned(text, cluster, leaf, pin),
+        RunLineRef::Goal(leaf, node, target) => put_goal(text, cluster, leaf, node, target),
+        RunLineRef::Lacking(leaf, reason) => put_lacking(text, cluster, leaf, reason),
+        RunLineRef::Begin(number, action) => put_begin(text, cluster, number, action),
+        RunLineRef::Taken(answer) => put_taken(text, cluster, answer),
+        RunLineRef::Complete(number) => put_number_line(text, b"complete ", number),
+        RunLineRef::Aborted(number) => put_number_line(text, b"aborted ", number),
+        RunLineRef::Unexpected(number) => put_number_line(text, b"unexpected ", number),
+    }
 }
 
 /// Writes the line of a run, with its line feed, in place of what the buffer has. A line has fewer than 1,024 bytes. It
@@ -346,17 +280,13 @@ pub fn write_line(cluster: &Cluster, line: &RunLineRef<'_>, text: &mut LineBuf)
 {
     line_is_short(line);
     text.clear();
-    match put_line(text, cluster, line) {
-        Ok(()) => {}
-        Err(_) => unreachable!(),
-    }
+    let Ok(()) = put_line(text, cluster, line);
 }
 
 /// `refused LINE CAUSE`, with its line feed.
-fn put_refusal<T: LineText>(text: &mut T, line: u32, cause: &str) -> Result<(), NoMemory>
-    ensures text { OnOk result (T.kept text.new ≡ T.more (T.kept text.old)
+fn put_refusal<T: LineText>(text: &mut T, line: u32, cause: &str) -> Result<(), T::Error>
+    ensures { OnOk result (T.kept text.new ≡ T.more (T.kept text.old)
         (codes "refused " ++ decimal line ++ codes " " ++ cause.now ++ codes "\n")) }
-    ensures fails { OnErr result T.may_fail }
 {
     put_numbered(text, b"refused ", line as u64)?;
     text.put(b" ")?;
@@ -374,8 +304,5 @@ pub fn write_refusal(line: u32, cause: &str, text: &mut LineBuf)
 {
     number_is_short(line as u64);
     text.clear();
-    match put_refusal(text, line, cause) {
-        Ok(()) => {}
-        Err(_) => unreachable!(),
-    }
+    let Ok(()) = put_refusal(text, line, cause);
 }

@@ -73,24 +73,16 @@ fn line_of_event(event: Event) -> Option<RunLineRef<'static>>
     Some(RunLineRef::Taken(answer))
 }
 
-/// The line of an event, if it has one.
-fn push_event(text: &mut Vec<u8>, cluster: &Cluster, event: Event) -> Result<(), NoMemory>
-    ensures { OnOk result (text.new.items
-        ≡ text.old.items ++ flat_map (texts.run_line cluster.now) (texts.event_lines event)) }
-{
-    match line_of_event(event) {
-        Some(line) => put_line(text, cluster, &line),
-        None => Ok(()),
-    }
-}
-
 /// The lines of some events.
 fn push_events(text: &mut Vec<u8>, cluster: &Cluster, events: &[Event]) -> Result<(), NoMemory>
     ensures { OnOk result (text.new.items
         ≡ text.old.items ++ flat_map (texts.run_line cluster.now) (flat_map texts.event_lines events.now)) }
 {
     for event in events {
-        push_event(text, cluster, *event)?;
+        let Some(line) = line_of_event(*event) else {
+            continue;
+        };
+        put_line(text, cluster, &line)?;
     }
     Ok(())
 }
@@ -122,36 +114,6 @@ fn push_end(
     }
 }
 
-/// The lines of a transition: its targets, what happened, and how it ended.
-fn push_passed(
-    text: &mut Vec<u8>,
-    cluster: &Cluster,
-    events: &[Event],
-    number: u32,
-    passed: &Passed,
-) -> Result<(), NoMemory>
-    requires limits { KeepsLimits cluster.now }
-    ensures { OnOk result (text.new.items
-        ≡ text.old.items
-        ++ flat_map (texts.run_line cluster.now) (texts.passed_lines cluster.now events.now number passed.now)) }
-{
-    put_line(text, cluster, &RunLineRef::Transition(number))?;
-    push_targets(
-        text,
-        cluster,
-        passed.pins.as_slice(),
-        &passed.table,
-        passed.none.as_slice(),
-    )?;
-    push_events(
-        text,
-        cluster,
-        between(events, passed.begins_at as usize, passed.ends_at as usize),
-    )?;
-    push_end(text, cluster, number, passed.end)?;
-    Ok(())
-}
-
 /// Where the first of some transitions begins in the journal, or the end of the journal.
 fn begin_of(events: &[Event], passed: &[Passed]) -> usize
     ensures { (c : ClusterOf) → result ≡ texts.begin_of c events.now passed.now }
@@ -162,7 +124,8 @@ fn begin_of(events: &[Event], passed: &[Passed]) -> usize
     }
 }
 
-/// The lines of a transition, and of what came between it and the next of those after it.
+/// The lines of a transition (its targets, what happened, and how it ended), and of what came between it and the next of
+/// those after it.
 fn push_first(
     text: &mut Vec<u8>,
     cluster: &Cluster,
@@ -177,13 +140,19 @@ fn push_first(
         ++ flat_map texts.event_lines
         (texts.between passed.now.ends_at (texts.begin_of cluster.now events.now after.now) events.now))) }
 {
-    push_passed(text, cluster, events, number, passed)?;
-    let next = begin_of(events, after);
-    push_events(
+    let begin = passed.begins_at as usize;
+    let end = passed.ends_at as usize;
+    put_line(text, cluster, &RunLineRef::Transition(number))?;
+    push_targets(
         text,
         cluster,
-        between(events, passed.ends_at as usize, next),
+        passed.pins.as_slice(),
+        &passed.table,
+        passed.none.as_slice(),
     )?;
+    push_events(text, cluster, between(events, begin, end))?;
+    push_end(text, cluster, number, passed.end)?;
+    push_events(text, cluster, between(events, end, begin_of(events, after)))?;
     Ok(())
 }
 

@@ -5,7 +5,8 @@ ghost use Rattle.std.specs.List.{enumerate_from, flat_map};
 ghost use Rattle.cluster_types.specs.Texts as texts;
 ghost use Rattle.cluster_types.specs.Valid.{KeepsLimits};
 
-use crate::names::push_leaf_on;
+use crate::line_text::LineText;
+use crate::names::{put_leaf, put_leaf_on};
 use crate::target_walk::push_targets;
 use cluster_types::{Cluster, Decided, Decision, LeafId, Placed};
 use faults::NoMemory;
@@ -24,10 +25,8 @@ pub fn push_decision(
         Decision::Place(_) => b"place ",
         Decision::Promote(_) => b"promote ",
     };
-    text.extend_from_slice(word)?;
-    text.extend_from_slice(cluster.leaf_name(decision.leaf()))?;
-    text.extend_from_slice(b"\n")?;
-    Ok(())
+    put_leaf(text, cluster, word, decision.leaf())?;
+    text.put(b"\n")
 }
 
 /// The line of the total of a leaf on a node, as `score LEAF NODE SCORE`. `NoMemory` comes when memory runs out.
@@ -42,12 +41,11 @@ pub fn push_total(
 {
     let mut buffer = [0; 12];
     let length = total.write_to(&mut buffer);
-    text.extend_from_slice(b"score ")?;
-    push_leaf_on(text, cluster, leaf, node)?;
-    text.extend_from_slice(b" ")?;
-    text.extend_from_slice(&buffer[..length])?;
-    text.extend_from_slice(b"\n")?;
-    Ok(())
+    text.put(b"score ")?;
+    put_leaf_on(text, cluster, leaf, node)?;
+    text.put(b" ")?;
+    text.put(&buffer[..length])?;
+    text.put(b"\n")
 }
 
 /// The lines of the totals of a leaf, in the order of nodes.
@@ -79,20 +77,6 @@ fn push_decided(text: &mut Vec<u8>, cluster: &Cluster, decided: &Decided) -> Res
     )
 }
 
-/// All decisions, in the order in which they were made.
-fn push_all_decided(
-    text: &mut Vec<u8>,
-    cluster: &Cluster,
-    decided: &[Decided],
-) -> Result<(), NoMemory>
-    ensures { OnOk result (text.new.items ≡ text.old.items ++ flat_map (texts.decided_lines cluster.now) decided.now) }
-{
-    for made in decided {
-        push_decided(text, cluster, made)?;
-    }
-    Ok(())
-}
-
 /// The text of scores: each decision in the order in which it was made with its total on each node, and then the target lines (rule of
 /// this project). It asks for a cluster within the limits. `NoMemory` comes when memory runs out.
 pub fn score_text(alloc: Global, cluster: &Cluster, placed: &Placed) -> Result<Vec<u8>, NoMemory>
@@ -100,7 +84,9 @@ pub fn score_text(alloc: Global, cluster: &Cluster, placed: &Placed) -> Result<V
     ensures { IfOk result (λ text. text.items ≡ texts.scores_text cluster.now placed.now) }
 {
     let mut text = Vec::new(alloc);
-    push_all_decided(&mut text, cluster, placed.decided.as_slice())?;
+    for made in placed.decided.as_slice() {
+        push_decided(&mut text, cluster, made)?;
+    }
     push_targets(
         &mut text,
         cluster,

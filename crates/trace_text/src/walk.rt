@@ -2,9 +2,9 @@ ghost use Rattle.std.specs.Prelude.{◌≡◌, ◌<◌, ◌≤◌, [], drop, len
 ghost use Rattle.trace_text.specs.Inner.Walk.{befores};
 
 use crate::arriving::Arriving;
-use crate::found::Found;
+use crate::found_actions::Found;
 use cluster_types::{Graph, NoMemory};
-use std::alloc::{AllocError, Global};
+use std::alloc::Global;
 use std::marker::Model;
 
 /// Tells which actions of a graph come before one of them, directly or through gates alone.
@@ -31,7 +31,8 @@ impl<'g> Model for Predecessors<'g> {
 }
 
 impl<'g> Predecessors<'g> {
-    fn made(alloc: Global, graph: &'g Graph) -> Result<Predecessors<'g>, AllocError>
+    /// Nothing is told yet. It goes once over all edges. Out of memory is its only other answer.
+    pub fn new(alloc: Global, graph: &'g Graph) -> Result<Predecessors<'g>, NoMemory>
         ensures { IfOk result (λ p. p ≡ record { graph = graph.now; left = [] }) }
     {
         let edges = graph.edges();
@@ -42,13 +43,6 @@ impl<'g> Predecessors<'g> {
             links,
             found,
         })
-    }
-
-    /// Nothing is told yet. It goes once over all edges. Out of memory is its only other answer.
-    pub fn new(alloc: Global, graph: &'g Graph) -> Result<Predecessors<'g>, NoMemory>
-        ensures { IfOk result (λ p. p ≡ record { graph = graph.now; left = [] }) }
-    {
-        Ok(Predecessors::made(alloc, graph)?)
     }
 
     /// The graph.

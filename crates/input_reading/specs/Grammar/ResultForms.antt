@@ -12,7 +12,7 @@ pub data ResultSays (c : Cluster) (moment : ℕ) : List (List ℕ) → Answer �
   timeout_form : (number : List ℕ) (k : ℕ) → WritesPositive number k → ResultSays c moment (codes "timeout" ∷ number ∷ []) (answer.Timeout k)
   lost_form : (name : List ℕ) (node : ℕ) → NamesNode c name node → ResultSays c moment (codes "lost" ∷ name ∷ []) (answer.Lost node)
   up_form : (name : List ℕ) (node : ℕ) → NamesNode c name node → ResultSays c moment (codes "up" ∷ name ∷ []) (answer.Up node)
-  quorum_form : (word : List ℕ) (yes : Bool) → SaysWhether word yes → ResultSays c moment (codes "quorum" ∷ word ∷ []) (answer.Quorum yes)
+  quorum_form : (word : List ℕ) (quorate : Bool) → SaysWhether word quorate → ResultSays c moment (codes "quorum" ∷ word ∷ []) (answer.Quorum quorate)
   -- the seconds end before the moment 2^40
   wait_form : (number : List ℕ) (seconds : ℕ) → WritesSeconds number seconds → moment + seconds < 2 ^ 40
       → ResultSays c moment (codes "wait" ∷ number ∷ []) (answer.Wait seconds)

@@ -46,7 +46,7 @@ pub data SaysOutcome : List ℕ → Outcome → Type 0 where
 -- what the words of a line of a status say of a cluster
 pub data StatusSays (c : Cluster) : List (List ℕ) → Told → Type 0 where
   now_form : (number : List ℕ) (seconds : ℕ) → WritesSeconds number seconds → StatusSays c (codes "now" ∷ number ∷ []) (Now seconds)
-  quorum_form : (word : List ℕ) (yes : Bool) → SaysWhether word yes → StatusSays c (codes "quorum" ∷ word ∷ []) (Quorum yes)
+  quorum_form : (word : List ℕ) (quorate : Bool) → SaysWhether word quorate → StatusSays c (codes "quorum" ∷ word ∷ []) (Quorum quorate)
   node_form : (name word : List ℕ) (node : ℕ) (state : NodeWord) → NamesNode c name node → SaysState word state
       → StatusSays c (codes "node" ∷ name ∷ word ∷ []) (Node node state)
   op_form : (name leaf_name op ms code number : List ℕ) (node leaf : ℕ) (action : Action) (outcome : Outcome) (moment : ℕ)

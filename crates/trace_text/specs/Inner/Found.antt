@@ -2,7 +2,7 @@
 -- them (rule of this project).
 use Rattle.std.specs.Prelude.{◌≡◌, ◌+◌, ◌-◌, ℕ, nat_lt, Bool, if◌then◌else◌, length}
 use Rattle.listed.specs.Sets.{is_member}
-use Rattle.trace_text.specs.declared.found.Found.{Found}
+use Rattle.trace_text.specs.declared.found_actions.Found.{Found}
 
 abbrev pub is_found : Found → ℕ → Bool
 is_found f x = if nat_lt x (length f.actions) then is_member f.actions (x + 1) else is_member f.gates (f.positions - x)

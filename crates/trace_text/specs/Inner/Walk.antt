@@ -3,7 +3,7 @@ use Rattle.std.specs.Prelude.{◌≡◌, ℕ, List, [], length, filter}
 use Rattle.std.specs.List.{range_with_len}
 use Rattle.cluster_types.specs.Graphs.{GraphOf, IsGraph, is_before}
 use Rattle.listed.specs.Sets.{members}
-use Rattle.trace_text.specs.declared.found.Found.{Found}
+use Rattle.trace_text.specs.declared.found_actions.Found.{Found}
 use Rattle.trace_text.specs.Inner.Arriving.{AreLinked}
 use Rattle.trace_text.specs.Inner.Found.{PositionsHaveRoom}
 

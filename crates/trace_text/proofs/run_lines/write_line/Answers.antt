@@ -8,5 +8,5 @@ pub returns : goal.returns
 returns c =
     let cl = c.args.cluster.now in
     let short = short_line cl c.requires.names c.args.line.now c.requires.reason c.line_is_short.ensures in
-    let text = kept_whole _ _ (run_line cl (lent_line c.args.line.now)) c.clear.ensures.text c.in-Ok.ensures.text short in
+    let text = kept_whole _ _ (run_line cl (lent_line c.args.line.now)) c.clear.ensures.text c.in-Ok.ensures short in
     record { text = text; size = subst (λ (t : List ℕ). length t < 1024) (sym text) short }

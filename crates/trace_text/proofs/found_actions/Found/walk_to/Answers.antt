@@ -1,8 +1,8 @@
 use Rattle.std.proofs.Common.{arith, ◌≡◌, length, sym, ◌∙◌}
-use Rattle.trace_text.specs.declared.found.Found.{Found}
+use Rattle.trace_text.specs.declared.found_actions.Found.{Found}
 use Rattle.trace_text.specs.Inner.Found.{PositionsHaveRoom, is_found}
 use Rattle.trace_text.proofs.NextGate.{of_sizes, way_begun}
-use Rattle.trace_text.proofs.found.Found.walk_to.Goals as goal
+use Rattle.trace_text.proofs.found_actions.Found.walk_to.Goals as goal
 
 pub returns-clause-way : goal.returns-clause-way
 returns-clause-way c =

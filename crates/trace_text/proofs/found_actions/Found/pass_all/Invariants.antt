@@ -2,7 +2,7 @@ use Rattle.std.proofs.Common.{ℕ, length}
 use Rattle.trace_text.specs.Inner.Backward.{IsOnTheWay}
 use Rattle.trace_text.specs.Inner.Found.{SameSizes, is_found}
 use Rattle.trace_text.proofs.NextGate.{gates_left}
-use Rattle.trace_text.proofs.found.Found.pass_all.Given as goal
+use Rattle.trace_text.proofs.found_actions.Found.pass_all.Given as goal
 
 abbrev pub invariant-loop-gate : goal.invariant-loop-gate
 invariant-loop-gate l = record {

@@ -3,7 +3,7 @@ use Rattle.std.proofs.lemmas.List.{length-replicate}
 use Rattle.cluster_types.specs.declared.graph_edges.Edges.{Edges}
 use Rattle.listed.specs.Sets.{members}
 use Rattle.trace_text.proofs.FirstMembers.{nothing_in}
-use Rattle.trace_text.proofs.walk.Predecessors.made.Goals as goal
+use Rattle.trace_text.proofs.walk.Predecessors.new.Goals as goal
 
 pub new-requires : goal.new-requires
 new-requires c = rw (c.as_slice.ensures, c.edges-edges.ensures.edges) c.edges-edges.ensures.graph.within

@@ -1,6 +1,6 @@
 use Rattle.std.proofs.Common.{◌≡◌, length}
 use Rattle.listed.specs.Sets.{members}
-use Rattle.trace_text.proofs.found.clear.Given as goal
+use Rattle.trace_text.proofs.found_actions.clear.Given as goal
 
 abbrev pub invariant-loop-number : goal.invariant-loop-number
 invariant-loop-number l = length l.set ≡ length l.fn.set

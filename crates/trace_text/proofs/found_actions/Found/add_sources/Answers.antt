@@ -8,7 +8,7 @@ use Rattle.trace_text.specs.Inner.Arriving.{last_to}
 use Rattle.trace_text.specs.Inner.Found.{is_found}
 use Rattle.trace_text.proofs.Linked.{IsLast, joined_on, last_known}
 use Rattle.trace_text.proofs.Places.{same_sizes, sizes_kept}
-use Rattle.trace_text.proofs.found.Found.add_sources.Goals as goal
+use Rattle.trace_text.proofs.found_actions.Found.add_sources.Goals as goal
 
 pub loop-next-init : goal.loop-next-init
 loop-next-init c =

@@ -4,7 +4,7 @@ use Rattle.listed.specs.Sets.{members}
 use Rattle.trace_text.proofs.FirstMembers.{first_from_one, first_to_most, none_first}
 use Rattle.trace_text.proofs.NextGate.{fewer_left, gates_left, way_kept}
 use Rattle.trace_text.proofs.Places.{room_kept, sizes_kept}
-use Rattle.trace_text.proofs.found.Found.pass_all.Goals as goal
+use Rattle.trace_text.proofs.found_actions.Found.pass_all.Goals as goal
 
 pub pass-requires-clause-from_one : goal.pass-requires-clause-from_one
 pass-requires-clause-from_one c = first_from_one c.loop-gate.self.gates c.in-Some.gate (sym c.in-Some.ensures)

@@ -1,7 +1,7 @@
 use Rattle.std.proofs.Common.{rules, ◌≡◌, ◌<◌, length, slice_get, None, sym}
 use Rattle.listed.specs.Sets.{members}
 use Rattle.trace_text.proofs.FirstMembers.{first_from_one, first_to_most, none_first, one_fewer}
-use Rattle.trace_text.proofs.found.clear.Goals as goal
+use Rattle.trace_text.proofs.found_actions.clear.Goals as goal
 
 pub remove-requires-clause-from_one : goal.remove-requires-clause-from_one
 remove-requires-clause-from_one c = first_from_one c.loop-number.set c.in-Some.number (sym c.in-Some.ensures)
