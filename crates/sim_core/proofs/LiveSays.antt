@@ -1,14 +1,12 @@
 -- What the word `replay` answers says what it has to of the input.
-use Rattle.std.proofs.Common.{◌≡◌, inl, inr, ℕ, Bool, true, Option, Some, None, List, [], IfSome, refl, sym, ap, subst, ◌∙◌}
-use Rattle.std.specs.Option.{option_map}
+use Rattle.std.proofs.Common.{◌≡◌, inl, inr, ℕ, Bool, true, Option, Some, None, List, [], IfSome, refl, sym, ap, subst}
 use Rattle.std.proofs.lemmas.Option.{IfSome_then}
 use Rattle.cluster_io.specs.Readings.{Reading}
 use Rattle.cluster_io.proofs.Bearing.{Bears-as, Bears-then}
-use Rattle.cluster_io.specs.Streams.{AddsPrefix, Bears}
+use Rattle.cluster_io.specs.Streams.{Bears}
 use Rattle.cluster_types.specs.declared.cluster.Cluster.{Cluster}
 use Rattle.cluster_types.specs.declared.journal.Journal.{Journal}
 use Rattle.live_run.specs.Coming.{Coming}
-use Rattle.live_run.specs.Heads as heads
 use Rattle.live_run.specs.declared.head.HeadStop.{HeadStop}
 use Rattle.live_run.specs.declared.head.HeadStop.TheVariants as stop
 use Rattle.live_run.specs.declared.live_end.LiveEnd.{LiveEnd}

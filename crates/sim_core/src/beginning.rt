@@ -1,6 +1,6 @@
 //! The head of the input of `replay`, as it comes.
 
-ghost use Rattle.std.specs.Prelude.{◌≡◌, ◌<◌, ◌^◌, length, IfErr, IfOk, IfSome, IsErrOf};
+ghost use Rattle.std.specs.Prelude.{◌≡◌, ◌<◌, ◌^◌, IfErr, IfOk, IfSome, IsErrOf};
 ghost use Rattle.cluster_io.specs.LineReaders.{loan_of, reading_of, source_of};
 ghost use Rattle.cluster_io.specs.Streams.{Bears};
 ghost use Rattle.cluster_types.specs.Journals.{moment_of};

@@ -1,5 +1,5 @@
 -- The steps of the word `replay`: the head of its input, and the run behind it. No public clause cites this module (rule of this project).
-use Rattle.std.specs.Prelude.{◌≡◌, ℕ, ◌<◌, false, Option, Some, None, List, [], ◌++◌, length, IfSome}
+use Rattle.std.specs.Prelude.{◌≡◌, ℕ, ◌<◌, false, Option, Some, None, List, [], ◌++◌, length}
 use Rattle.cluster_io.specs.Readings.{Reading}
 use Rattle.cluster_io.specs.Streams.{Adds, AddsPrefix}
 use Rattle.live_run.specs.Heads as heads
