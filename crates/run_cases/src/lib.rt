@@ -21,8 +21,6 @@ mod waiting_orders;
 
 // Transitions and runs.
 #[cfg(test)]
-mod begins;
-#[cfg(test)]
 mod handed_back;
 #[cfg(test)]
 mod runs;

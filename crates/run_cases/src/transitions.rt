@@ -41,7 +41,7 @@ const FIRST_TO_SECOND: Edge = Edge {
 };
 
 /// The plan where nothing is known: both probes, and then the start on the first node.
-pub(crate) const PROBED: Plan = (
+const PROBED: Plan = (
     &[PROBE_1, PROBE_2, START_1],
     &[
         Edge {
