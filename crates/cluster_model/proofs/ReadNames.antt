@@ -5,8 +5,8 @@ use Rattle.crm_lex.specs.Names.{is_name}
 use Rattle.crm_parse.specs.declared.form.Form.{Form}
 use Rattle.crm_parse.specs.declared.form.Form.TheVariants as form
 use Rattle.crm_parse.specs.declared.statement.Statement.{Statement}
-use Rattle.crm_parse.specs.Named.{HasNames}
-use Rattle.crm_parse.specs.ReadForms.{IsRead}
+use Rattle.crm_parse.specs.Inner.Named.{HasNames}
+use Rattle.crm_parse.specs.Inner.ReadForms.{IsRead}
 use Rattle.cluster_types.specs.declared.node.Node.{Node}
 use Rattle.cluster_types.specs.declared.rules.Colocation.{Colocation}
 use Rattle.cluster_types.specs.declared.rules.Location.{Location}

@@ -13,7 +13,7 @@ use Rattle.state_unpack.specs.CellsKept.{has_few_monitors, is_blamed, node_from,
 use Rattle.state_unpack.specs.Kept.{TellsEvent}
 use Rattle.state_unpack.specs.Known.{Knowledge, Knows, knowledge}
 use Rattle.state_unpack.specs.Signs.{ShowsSigns}
-use Rattle.state_unpack.specs.Touching.{touches}
+use Rattle.state_unpack.specs.Inner.Touching.{touches}
 use Rattle.state_unpack.proofs.CellsKnown.{blamed-is, by-sign, cells-are, few-monitors, nodes-are, stops-are}
 use Rattle.state_unpack.proofs.LastSigns.{quorum-more}
 use Rattle.state_unpack.proofs.Told.{keeps-more}

@@ -15,7 +15,7 @@ use Rattle.cluster_types.proofs.TableCells.{ordered, same_place, get-at, same_ce
 use Rattle.state_unpack.specs.declared.facts.Facts.{Facts}
 use Rattle.state_unpack.specs.Facts.{facts_of, facts_after, no_facts, monitor_runs}
 use Rattle.state_unpack.specs.Kept.{IsFull, cell_in, KeepsFacts, TellsEvent}
-use Rattle.state_unpack.specs.Touching.{touches}
+use Rattle.state_unpack.specs.Inner.Touching.{touches}
 use Rattle.state_unpack.proofs.MoreFacts.{facts-after}
 use Rattle.state_unpack.proofs.StillFacts.{facts-stay}
 

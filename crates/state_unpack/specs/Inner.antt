@@ -1,0 +1,5 @@
+-- What no public clause rests on: what the code of this crate keeps and counts on the way, for its proofs alone.
+pub mod Operations
+pub mod Touching
+pub mod Unclean
+pub mod LeafFields
