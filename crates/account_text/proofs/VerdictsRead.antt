@@ -26,7 +26,8 @@ use Rattle.cluster_types.specs.Unpacked.{states_of}
 use Rattle.decision_account.specs.Verdicts as verdict
 use Rattle.decision_account.specs.Verdicts.{Verdict, is_last_chosen, joined_separation, last_chosen, missed_colocation, outdone, passed_by, refusal, verdict_on}
 use Rattle.decision_account.proofs.TrueVerdicts.{found}
-use Rattle.placement.specs.Reads.{is_permitted_in, may_stay_in}
+use Rattle.placement.specs.Reads.{may_stay_in}
+use Rattle.placement.specs.Inner.Reads.{is_permitted_in}
 use Rattle.placement.specs.Usable.{is_usable_by}
 use Rattle.placement.proofs.OwnOfStates.{from-zero, usable-is}
 use Rattle.placement.proofs.ReadOfStates.{open-is}

@@ -3,6 +3,7 @@ pub mod Accounted
 pub mod Asked
 pub mod HeldTexts
 pub mod Joining
+pub mod Journal
 pub mod Judged
 pub mod Lent
 pub mod Reading

@@ -2,7 +2,7 @@
 
 ghost use Rattle.std.specs.Prelude.{◌≡◌, ◌++◌, ◌<◌, ℕ, Option, length, OnOk};
 ghost use Rattle.std.specs.List.{flat_map};
-ghost use Rattle.placement.specs.Locations.{is_role};
+ghost use Rattle.placement.specs.Inner.Locations.{is_role};
 ghost use Rattle.account_text.specs.Inner.Lent as lent;
 ghost use Rattle.account_text.specs.Inner.Sources.{IsSourceOf};
 ghost use Rattle.account_text.specs.Inner.Told as spec;

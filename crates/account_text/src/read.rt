@@ -3,7 +3,7 @@
 ghost use Rattle.std.specs.Prelude.{◌≡◌, ◌<◌, length, IfOk};
 ghost use Rattle.cluster_types.specs.Decisions.{leaf_of};
 ghost use Rattle.cluster_types.specs.Valid.{IsValid};
-ghost use Rattle.account_text.specs.Journal.{HaveJournal};
+ghost use Rattle.account_text.specs.Inner.Journal.{HaveJournal};
 ghost use Rattle.account_text.specs.Inner.Reading.{ReadsCluster};
 ghost use Rattle.account_text.specs.Inner.Told as spec;
 

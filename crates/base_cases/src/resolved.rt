@@ -2,7 +2,7 @@
 
 ghost use Rattle.std.specs.Prelude.{◌≤◌, length};
 ghost use Rattle.cluster_types.specs.Valid.{IsValid};
-ghost use Rattle.input_reading.specs.Reading.{AreStated};
+ghost use Rattle.input_reading.specs.Inner.Reading.{AreStated};
 
 use cluster_model::{expand, resolve};
 use cluster_types::Cluster;

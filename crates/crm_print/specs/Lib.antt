@@ -1,3 +1,4 @@
+pub mod Inner
 pub mod Quoting
 pub mod Items
 pub mod Text

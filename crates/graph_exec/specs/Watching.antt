@@ -1,5 +1,5 @@
 -- What a watcher was told of a transition, from one moment of it to another, and what it was shown (rule of this project).
-use Rattle.std.specs.Prelude.{◌≡◌, ◌⊎◌, ◌++◌, ◌∷◌, [], Bool, Option, Some, None, List}
+use Rattle.std.specs.Prelude.{◌≡◌, ◌⊎◌, ◌++◌, ◌∷◌, Bool, Option, Some, None, List, []}
 use Rattle.std.specs.List.{flat_map}
 use Rattle.cluster_types.specs.declared.journal.Answer.{Answer}
 use Rattle.cluster_types.specs.declared.journal.Event.{Event}
@@ -27,10 +27,6 @@ watched plain.SourceFault = how.SourceFault
 abbrev pub heard_at : WatchedEnd → Heard
 heard_at how.Stopped = heard.Stop
 heard_at _ = heard.Go
-
-abbrev pub heard_in : Option WatchedEnd → Heard
-heard_in (Some end) = heard_at end
-heard_in None = heard.Go
 
 -- the watcher went on by the lines of all that has happened from one moment to the other
 pub record AreLinesTold (Follows : List RunLine → Type 0) (old new : Running) : Type 0 where

@@ -15,7 +15,8 @@ use Rattle.cluster_types.specs.Journals.{NodeWord, Orderly, first_events, in_fli
 use Rattle.cluster_types.proofs.JournalLaws.{in-order, nothing-in-flight}
 use Rattle.input_reading.specs.declared.status.line_meaning.Told.{Told}
 use Rattle.input_reading.specs.declared.status.line_meaning.Told.TheVariants as told
-use Rattle.input_reading.specs.FirstJournal.{all_differ, events_of, history_of, is_again, is_known, is_repeated, is_promotion_of_same_cell, now_of, promotion_in, quorum_of, word_of}
+use Rattle.input_reading.specs.FirstJournal.{events_of, history_of, is_again, is_repeated, is_promotion_of_same_cell, now_of, promotion_in, quorum_of, word_of}
+use Rattle.input_reading.specs.Inner.FirstJournal.{all_differ, is_known}
 
 -- one more line
 pub one_more_known : (nodes : ℕ) (before : List Told) (one : Told) → list_all (is_known nodes) before ≡ true → is_known nodes one ≡ true

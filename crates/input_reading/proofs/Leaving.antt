@@ -5,7 +5,8 @@ use Rattle.cluster_types.specs.declared.cluster.Cluster.{Cluster}
 use Rattle.cluster_types.specs.declared.journal.Event.{Event}
 use Rattle.cluster_types.specs.Journals.{leaving}
 use Rattle.input_reading.specs.declared.status.line_meaning.Told.{Told}
-use Rattle.input_reading.specs.FirstJournal.{leavings, word_of}
+use Rattle.input_reading.specs.FirstJournal.{word_of}
+use Rattle.input_reading.specs.Inner.FirstJournal.{leavings}
 
 -- how so many nodes leave, from one of them on
 abbrev pub leavings_from : Cluster → List Told → ℕ → ℕ → List Event

@@ -6,7 +6,8 @@ use Rattle.std.specs.List.{list_all}
 use Rattle.crm_lex.specs.declared.line.Line.{Line}
 use Rattle.cluster_types.specs.declared.cluster.Cluster.{Cluster}
 use Rattle.input_reading.specs.declared.status.line_meaning.Told.{Told}
-use Rattle.input_reading.specs.FirstJournal.{all_differ, is_known, with_status_line, with_status_lines}
+use Rattle.input_reading.specs.FirstJournal.{with_status_line, with_status_lines}
+use Rattle.input_reading.specs.Inner.FirstJournal.{all_differ, is_known}
 
 -- the lines so far are read, and the rest is still to be read
 pub record AreTold (c : Cluster) (told : List Told) (lines rest : List Line) : Type 0 where

@@ -22,7 +22,8 @@ use Rattle.input_reading.specs.Places.{WordsOfLine, line_end_at, leaf_at, node_a
 use Rattle.input_reading.proofs.Bounds.{node_known, seconds_small}
 use Rattle.input_reading.proofs.Steps.{any_step, either_way, step}
 use Rattle.input_reading.specs.FirstJournal as journals
-use Rattle.input_reading.specs.FirstJournal.{is_known, is_repeated, status_journal}
+use Rattle.input_reading.specs.FirstJournal.{is_repeated, status_journal}
+use Rattle.input_reading.specs.Inner.FirstJournal.{is_known}
 use Rattle.input_reading.specs.declared.history_fault.StatusCause.TheVariants.{Form}
 use Rattle.input_reading.specs.Status.{history_action, cleanup_line, interval_at, node_line, now_line, op_at, op_line, outcome_at, promotable_at, promotion_line, quorum_line, score_at, state_at, status_word, told_as, told_of}
 use Rattle.input_reading.proofs.FirstJournals.{journal_in_order, journal_is_idle, one_more_known}

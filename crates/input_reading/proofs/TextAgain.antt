@@ -21,7 +21,8 @@ use Rattle.crm_lex.specs.Names.{is_name, is_name_byte}
 use Rattle.crm_lex.specs.Reading.{reads}
 use Rattle.crm_print.proofs.Clean.{EachClean, clean-name}
 use Rattle.crm_print.specs.Items.{word}
-use Rattle.crm_print.specs.Quoting.{Item, begins_with_hash, is_plain, item_word, items_line, needs_quotes, quoted, spaced}
+use Rattle.crm_print.specs.Quoting.{Item, begins_with_hash, is_plain, items_line, needs_quotes, quoted, spaced}
+use Rattle.crm_print.specs.Inner.Quoting.{item_word}
 use Rattle.crm_print.proofs.Lines.{is_filled}
 use Rattle.crm_print.proofs.TextReads.{Readable, ended_lines, text-reads}
 use Rattle.crm_print.proofs.TextReads as text

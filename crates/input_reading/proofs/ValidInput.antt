@@ -28,7 +28,8 @@ use Rattle.input_reading.specs.declared.input.cause.InputCause.TheVariants as ca
 use Rattle.input_reading.specs.declared.input.reading.Configuration.{Configuration}
 use Rattle.input_reading.specs.declared.input.reading.Head.{Head}
 use Rattle.input_reading.specs.declared.input.reading.Input.{Input}
-use Rattle.input_reading.specs.Reading.{AreStated, ReadsInput, configuration_lines, configuration_of, following_lines, head_of, input_of, status_lines, with_cluster, with_results}
+use Rattle.input_reading.specs.Reading.{ReadsInput, configuration_lines, configuration_of, following_lines, head_of, input_of, status_lines, with_cluster, with_results}
+use Rattle.input_reading.specs.Inner.Reading.{AreStated}
 
 -- a step that was passed: what it gave, and what the steps behind it give
 pub record IsPassed {A B F : Type 0} (step : Result A F) (next : A → Result B (Fault InputCause)) (end : B) : Type 0 where

@@ -1,13 +1,13 @@
 -- The first journal: what a status tells as a whole (Pacemaker Explained, operation history; the form of a journal is a rule of this project).
-use Rattle.std.specs.Prelude.{ℕ, ◌^◌, nat_lt, ◌==◌, ◌&&◌, not, Bool, true, false, if◌then◌else◌, List, [], ◌∷◌, ◌++◌, length, map, Option, Some, None, unwrap_or, Result, Ok, Err}
-use Rattle.std.specs.List.{enumerate_from, filter_map, flat_map, list_any, range_with_len}
+use Rattle.std.specs.Prelude.{ℕ, ◌==◌, ◌&&◌, Bool, true, false, if◌then◌else◌, List, ◌∷◌, ◌++◌, length, map, Option, Some, None, unwrap_or, Result, Ok, Err, []}
+use Rattle.std.specs.List.{filter_map, list_any, range_with_len}
 use Rattle.crm_lex.specs.declared.line.Line.{Line}
 use Rattle.cluster_types.specs.declared.cluster.Cluster.{Cluster}
 use Rattle.cluster_types.specs.declared.journal.Event.{Event}
 use Rattle.cluster_types.specs.declared.journal.Journal.{Journal}
 use Rattle.cluster_types.specs.declared.journal.Promotion.{Promotion}
 use Rattle.cluster_types.specs.Journals as journals
-use Rattle.cluster_types.specs.Journals.{first_events, is_history_event}
+use Rattle.cluster_types.specs.Journals.{first_events}
 use Rattle.faults.specs.declared.fault.Fault.{Fault}
 use Rattle.faults.specs.declared.fault.Fault.TheVariants.{At}
 use Rattle.faults.specs.Reading.{◌>>=◌, faulting, on_line}
@@ -103,18 +103,3 @@ journal_of c told = record { events = events_of c told; promotions = filter_map 
 -- the first journal of the lines of a status, or their first fault
 abbrev pub status_journal : Cluster → List Line → Result Journal (Fault StatusCause)
 status_journal c lines = with_status_lines c [] lines >>= (λ told. Ok (journal_of c told))
-
--- a moment that is told is below 2^40, and an event is one of the history of so many nodes. Of other facts nothing is asked
-abbrev pub is_known : ℕ → Told → Bool
-is_known nodes (Now seconds) = nat_lt seconds (2 ^ 40)
-is_known nodes (Past event) = is_history_event nodes event
-is_known nodes _ = true
-
--- how the nodes leave, in their order
-abbrev pub leavings : Cluster → List Told → List Event
-leavings c told = flat_map (journals.leaving c) (enumerate_from 0 (map (word_of told) (range_with_len 0 (length c.nodes))))
-
--- no line says again what one before it said
-abbrev pub all_differ : List Told → Bool
-all_differ [] = true
-all_differ (told ∷ more) = not (list_any (is_again told) more) && all_differ more

@@ -15,7 +15,6 @@ use Rattle.crm_parse.specs.Statements.{statements_of}
 use Rattle.cluster_model.specs.Expansion.{expansion_of}
 use Rattle.cluster_model.specs.Resolution.{resolution_of}
 use Rattle.cluster_types.specs.declared.cluster.Cluster.{Cluster}
-use Rattle.cluster_types.specs.declared.journal.Journal.{Journal}
 use Rattle.cluster_types.specs.Journals.{moment_of}
 use Rattle.input_reading.specs.FirstJournal.{status_journal}
 use Rattle.input_reading.specs.Results.{results_of}
@@ -24,7 +23,6 @@ use Rattle.input_reading.specs.declared.input.cause.InputCause.TheVariants as ca
 use Rattle.input_reading.specs.declared.input.reading.Configuration.{Configuration}
 use Rattle.input_reading.specs.declared.input.reading.Head.{Head}
 use Rattle.input_reading.specs.declared.input.reading.Input.{Input}
-use Rattle.input_reading.specs.declared.results.result_lines.ResultLine.{ResultLine}
 
 -- the most bytes that an input may have: 16 MiB. And the most of a logical line of it, without line ends (rules of this project)
 abbrev pub most_bytes : ℕ
@@ -59,11 +57,6 @@ configuration_of sections text = do
   leaves ← faulting cause.Leaves (expansion_of crm.statements)
   Ok (record { lines = lines; marks = marks; crm = crm; leaves = leaves })
 
--- the statements are those of some lines
-pub record AreStated (crm : Crm) : Type 0 where
-  pub lines : List Line
-  pub are : statements_of lines ≡ Ok crm
-
 -- the head of an input: its configuration, which says this cluster, and the journal that these lines of the status tell
 unfoldable pub head_of : Crm → Cluster → List Line → Result Head (Fault InputCause)
 head_of crm cluster lines = do
@@ -95,17 +88,6 @@ unfoldable pub with_results : Head → List Line → Result Input (Fault InputCa
 with_results head lines = do
   answers ← faulting cause.Results (results_of head.cluster (moment_of head.journal.events) lines)
   Ok (record { head = head; results = answers })
-
--- the input whose configuration says this cluster, of these lines of the status and these result lines
-abbrev pub input_with : Crm → Cluster → List Line → List Line → Result Input (Fault InputCause)
-input_with crm cluster status results = head_of crm cluster status >>= (λ head. with_results head results)
-
--- the journal that these lines of the status tell of a cluster, and behind it the answers of these result lines
-unfoldable pub status_and_results : Cluster → List Line → List Line → Result (Journal × List ResultLine) (Fault InputCause)
-status_and_results cluster status results = do
-  journal ← faulting cause.Status (status_journal cluster status)
-  answers ← faulting cause.Results (results_of cluster (moment_of journal.events) results)
-  Ok (journal, answers)
 
 -- what is read of a whole text, or its fault: that of the first step that fails
 unfoldable pub input_of : List ℕ → Result Input (Fault InputCause)

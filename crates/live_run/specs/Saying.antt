@@ -1,5 +1,5 @@
 -- What one logical line says where an answer is due (rule of this project).
-use Rattle.std.specs.Prelude.{◌≡◌, ℕ, ◌+◌, ◌^◌, ◌<◌, Bool, true, false, Result, Ok, Err, List, [], ◌∷◌}
+use Rattle.std.specs.Prelude.{ℕ, ◌+◌, Bool, true, false, Result, Ok, Err, List, ◌∷◌, []}
 use Rattle.std.specs.List.{concat}
 use Rattle.cluster_io.specs.NextLine.{line_answer}
 use Rattle.cluster_io.specs.declared.line_step.LineStep.{LineStep}
@@ -64,9 +64,3 @@ place_behind_said at _ lines = record { moment = at.moment; before = at.before; 
 abbrev pub is_last : LineStop → Bool
 is_last ReadFault = false
 is_last _ = true
-
--- a line at a place may say this: an answer is in time and among the first 10,000 result lines
-abbrev pub SaidFits : Place → Said → Type 0
-SaidFits at said.Nothing = Unit {0}
-SaidFits at (said.Answer given) = (at.before < 10000) × (at.moment + seconds_in given < 2 ^ 40)
-SaidFits at (said.Stop why) = is_last why ≡ true

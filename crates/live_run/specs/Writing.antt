@@ -1,13 +1,10 @@
 -- What is written of some lines of a run, and what is held back (rule of this project).
-use Rattle.std.specs.Prelude.{◌≡◌, ℕ, ◌+◌, ◌≤◌, Bool, Option, Some, None, Result, Ok, Err, List, [], ◌++◌, length}
+use Rattle.std.specs.Prelude.{◌≡◌, ℕ, ◌+◌, ◌≤◌, Bool, Option, Some, None, Result, Ok, Err, List, ◌++◌, length, []}
 use Rattle.cluster_io.specs.Streams.{Adds, AddsPrefix, Bears}
 use Rattle.cluster_io.specs.declared.sink.WriteFault.{WriteFault}
 use Rattle.cluster_types.specs.declared.cluster.Cluster.{Cluster}
 use Rattle.cluster_types.specs.declared.run.RunLine.{RunLine}
 use Rattle.cluster_types.specs.Texts.{run_line}
-use Rattle.graph_exec.specs.Telling.{StopsAmong}
-use Rattle.graph_exec.specs.declared.transition.watcher.Heard.{Heard}
-use Rattle.graph_exec.specs.declared.transition.watcher.Heard.TheVariants as heard
 use Rattle.live_run.specs.Ends.{run_lines_text}
 
 -- how many bytes are held back at most
@@ -24,11 +21,6 @@ abbrev pub Puts : Result (Unit {0}) WriteFault → List ℕ → Option (List ℕ
 Puts (Ok done) text before after = Adds before text after
 Puts (Err fault) text before after = AddsPrefix text before after
 
--- whoever writes goes on until a write fails
-abbrev pub heard_of : Result (Unit {0}) WriteFault → Heard
-heard_of (Ok done) = heard.Go
-heard_of (Err fault) = heard.Stop
-
 -- a writer has the loan of its sink that it had
 abbrev pub IsSameSink : ℕ → ℕ → Type 0
 IsSameSink loan loan_now = loan_now ≡ loan
@@ -39,21 +31,10 @@ pub record GoesOut (text held held_now : List ℕ) (before after : Option (List 
   pub parts : held ++ text ≡ out ++ held_now
   pub written : Adds before out after
 
--- so it was, or the sink failed
-abbrev pub PutsBehind : Result (Unit {0}) WriteFault → List ℕ → List ℕ → List ℕ → Option (List ℕ) → Option (List ℕ) → Type 0
-PutsBehind (Ok done) text held held_now before after = GoesOut text held held_now before after
-PutsBehind (Err fault) text held held_now before after = CutsShort held text before after
-
 -- what was held back and a text behind it were written, or the sink failed
 abbrev pub PutsLast : Result (Unit {0}) WriteFault → List ℕ → List ℕ → Option (List ℕ) → Option (List ℕ) → Type 0
 PutsLast (Ok done) text held before after = Adds before (held ++ text) after
 PutsLast (Err fault) text held before after = CutsShort held text before after
-
-module _ (c : Cluster) (held held_now : List ℕ) (before after : Option (List ℕ)) where
-  -- these lines were added, or some of them, behind which the sink failed
-  abbrev pub PutsLines : Result (Unit {0}) WriteFault → List RunLine → Type 0
-  PutsLines (Ok done) lines = GoesOut (run_lines_text c lines) held held_now before after
-  PutsLines (Err fault) lines = StopsAmong (λ (front : List RunLine) (at : RunLine). CutsShort (held ++ run_lines_text c front) (run_line c at) before after) lines
 
 -- what lines that were written have left of a sink's count of faults, by whether the last of them failed, and of its loan
 pub record HasPut (exact : Bool) (failed : Type 0) (faults faults_now loan loan_now : ℕ) : Type 0 where

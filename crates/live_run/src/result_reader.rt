@@ -8,7 +8,8 @@ ghost use Rattle.live_run.specs.AtHand.{HoldsResultLine};
 ghost use Rattle.live_run.specs.Coming.{AreReady};
 ghost use Rattle.live_run.specs.Inner.ComingSteps.{Brings, answers_in, reads_on, is_stop_last, said_came};
 ghost use Rattle.live_run.specs.Inner.ReadSteps.{ReadUntil};
-ghost use Rattle.live_run.specs.Saying.{SaidFits, line_says, place_behind_said};
+ghost use Rattle.live_run.specs.Saying.{line_says, place_behind_said};
+ghost use Rattle.live_run.specs.Inner.Saying.{SaidFits};
 
 use crate::line_meaning::Said;
 use crate::line_result::Came;

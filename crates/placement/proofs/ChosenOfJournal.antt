@@ -27,7 +27,7 @@ use Rattle.placement.specs.Scores.{scores_of}
 use Rattle.placement.proofs.OwnOfStates.{from-zero}
 use Rattle.placement.proofs.TableOfStates.{total-is}
 use Rattle.placement.specs.Inner.Picks.{ArePicked}
-use Rattle.placement.specs.Reads.{is_candidate_in, total_in}
+use Rattle.placement.specs.Inner.Reads.{is_candidate_in, total_in}
 use Rattle.placement.specs.Steps.{Chooses}
 use Rattle.placement.proofs.ReadOfStates.{open-is}
 

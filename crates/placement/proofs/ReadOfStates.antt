@@ -21,7 +21,8 @@ use Rattle.cluster_types.specs.Unpacked.{states_of}
 use Rattle.cluster_types.proofs.StatesKept.{cell_kept, fail_stop_kept}
 use Rattle.placement.specs.OwnRows.{is_active_by}
 use Rattle.placement.proofs.OwnOfStates.{active-is, usable-is}
-use Rattle.placement.specs.Reads.{active_count_in, cap_in, is_kept_in, is_open_in, is_permitted_in, state_in}
+use Rattle.placement.specs.Reads.{active_count_in, is_kept_in, state_in}
+use Rattle.placement.specs.Inner.Reads.{cap_in, is_open_in, is_permitted_in}
 
 turned : (s k b h : Bool) → (s || (k && b) && h) ≡ (s || k && h && b)
 turned true k b h = refl

@@ -9,10 +9,16 @@ pub mod Flags
 pub mod Lending
 pub mod LendingRows
 pub mod Links
+pub mod Locations
+pub mod OwnRows
 pub mod Picks
 pub mod Pins
+pub mod Promotions
 pub mod Queueing
+pub mod Reads
 pub mod Reasoning
 pub mod ScoresByStates
+pub mod Steps
 pub mod Taking
+pub mod Ties
 pub mod Turns

@@ -25,7 +25,7 @@ use Rattle.cluster_types.specs.Tables.{Targets, targets_of}
 use Rattle.cluster_types.specs.Valid.{IsValid}
 use Rattle.planner.specs.Inner.Leaves.{action_leaf}
 use Rattle.planner.specs.Inner.Places.{is_of_leaf}
-use Rattle.planner.specs.Rooms.{IsActionWithin}
+use Rattle.planner.specs.Within.{IsActionWithin}
 use Rattle.planner.proofs.Counts.{both_counts}
 use Rattle.planner.proofs.NeededWithin.{needed_within}
 use Rattle.plan_laws.proofs.CellSteps.{is_step}

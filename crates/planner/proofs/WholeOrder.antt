@@ -11,7 +11,7 @@ use Rattle.cluster_types.specs.Plans.{most_edges}
 use Rattle.cluster_types.specs.Tables.{targets_of}
 use Rattle.cluster_types.specs.Valid.{IsValid}
 use Rattle.planner.specs.Precede.{AreEdges, graph_by}
-use Rattle.planner.specs.Rooms.{IsActionWithin}
+use Rattle.planner.specs.Within.{IsActionWithin}
 use Rattle.planner.proofs.NeededWithin.{needed_within}
 use Rattle.planner.proofs.Upward.{is_graph}
 use Rattle.plan_laws.proofs.LowerNumbers.{promotable_target}

@@ -3,8 +3,7 @@ pub mod Planned
 pub mod Losses
 pub mod Cycling
 pub mod Joins
-pub mod Gates
-pub mod Rooms
 pub mod Chains
 pub mod Precede
 pub mod PlannedActions
+pub mod Within

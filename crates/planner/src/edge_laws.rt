@@ -18,7 +18,7 @@ ghost use Rattle.cluster_types.specs.Valid.{IsValid};
 ghost use Rattle.planner.specs.Chains.{ArePlacesInOrder, IsChained, is_earlier_at};
 ghost use Rattle.planner.specs.Joins.{is_joined, joins_of};
 ghost use Rattle.planner.specs.Precede.{AreEdges, graph_by};
-ghost use Rattle.planner.specs.Rooms.{IsActionWithin};
+ghost use Rattle.planner.specs.Within.{IsActionWithin};
 
 /// What must precede is what some join says, and what orders of the kind Serialize say in the order of numbers.
 pub fn joins_say_what_must_precede()

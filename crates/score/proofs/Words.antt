@@ -8,7 +8,8 @@ use Rattle.std.proofs.lemmas.List.{get_or-replicate, get_or_past, length-replica
 use Rattle.std.proofs.lemmas.Nat.{shl_whole, pow_pos, div_below, mod_below, div-add-mod'}
 use Rattle.std.proofs.lemmas.Int.{ints}
 use Rattle.std.proofs.Math.Bool.{or-false}
-use Rattle.score.specs.Choice.{SaysEnough, is_candidate_node}
+use Rattle.score.specs.Choice.{is_candidate_node}
+use Rattle.score.specs.Inner.Choice.{SaysEnough}
 use Rattle.score.specs.NodeSet.{is_set}
 
 one_of : (x y : ℕ) → x < 2 → y < 2 → nat_eq (max x y) 1 ≡ (nat_eq x 1 || nat_eq y 1)

@@ -1,5 +1,5 @@
 -- How a row is stored: flags that are 0 or not, and sums above a bias, so that lanes need no sign.
-use Rattle.std.specs.Prelude.{ℕ, pos, ◌-ℤ◌, List, [], ◌∷◌, nat_lt, min, max, if◌then◌else◌}
+use Rattle.std.specs.Prelude.{ℕ, pos, ◌-ℤ◌, List, ◌∷◌, nat_lt, []}
 use Rattle.score.specs.Row.{Tally}
 
 -- what a stored sum of 0 is
@@ -16,15 +16,3 @@ tallies [] pluses sums = []
 tallies (minus ∷ minuses) [] sums = []
 tallies (minus ∷ minuses) (plus ∷ pluses) [] = []
 tallies (minus ∷ minuses) (plus ∷ pluses) (sum ∷ sums) = stored_tally minus plus sum ∷ tallies minuses pluses sums
-
--- the stored points of -INFINITY and of INFINITY
-abbrev pub stored_least : ℕ
-stored_least = 1099510627776
-
-abbrev pub stored_most : ℕ
-stored_most = 1099512627776
-
--- the stored points of a node's total
-abbrev pub stored_total : ℕ → ℕ → ℕ → ℕ
-stored_total minus plus sum =
-    if nat_lt 0 minus then stored_least else (if nat_lt 0 plus then stored_most else max stored_least (min stored_most sum))

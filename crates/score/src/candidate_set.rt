@@ -1,6 +1,7 @@
 ghost use Rattle.std.specs.Prelude.{◌≡◌, ℕ, ◌+◌, ◌<◌, ◌≤◌, ◌&&◌, length, true, not, if◌then◌else◌};
 ghost use Rattle.std.specs.Int.{is_negative};
-ghost use Rattle.score.specs.Choice.{SaysEnough, is_candidate_node};
+ghost use Rattle.score.specs.Choice.{is_candidate_node};
+ghost use Rattle.score.specs.Inner.Choice.{SaysEnough};
 ghost use Rattle.score.specs.NodeSet.{has, is_set};
 
 use crate::form::Form;

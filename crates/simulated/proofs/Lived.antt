@@ -14,7 +14,8 @@ use Rattle.run_safety.proofs.Along.{journals_grow}
 use Rattle.simulated.specs.Lives.{Lives}
 use Rattle.simulated.specs.Worlds.{Agrees, IsOfOne, WorldOf}
 use Rattle.simulated.proofs.Moments.{grown}
-use Rattle.simulated.specs.WorldTexts.{HasLived, IsAtEnd, more_due, most_transitions, over}
+use Rattle.simulated.specs.WorldTexts.{IsAtEnd, more_due, most_transitions, over}
+use Rattle.simulated.specs.Inner.WorldTexts.{HasLived}
 
 -- two fronts of one list that are as long are the same
 same_front : {X : Type 0} (xs ys a b : List X) → xs ++ a ≡ ys ++ b → length xs ≡ length ys → xs ≡ ys

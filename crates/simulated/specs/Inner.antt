@@ -2,3 +2,5 @@
 pub mod Firsts
 pub mod Kept
 pub mod NodeTurns
+pub mod Turns
+pub mod WorldTexts

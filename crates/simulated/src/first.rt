@@ -5,7 +5,7 @@ ghost use Rattle.cluster_types.specs.CellStates.{last_outcome};
 ghost use Rattle.cluster_types.specs.declared.journal.Event.{Event as EventOf};
 ghost use Rattle.cluster_types.specs.Journals.{last_sign, moment_of};
 ghost use Rattle.cluster_types.specs.Valid.{KeepsLimits};
-ghost use Rattle.state_unpack.specs.CellsKept.{has_few_monitors};
+ghost use Rattle.state_unpack.specs.Knowledge.{has_few_monitors};
 ghost use Rattle.state_unpack.specs.Known.{Knows};
 ghost use Rattle.simulated.specs.Kept.{Holds, HoldsNodes, ShowsWorld};
 ghost use Rattle.simulated.specs.RealWorlds as worlds;

@@ -19,14 +19,18 @@ use Rattle.cluster_types.specs.Journals.{NodeSign, joined, went_down, was_lost, 
 use Rattle.cluster_types.specs.NodeStates.{node_state, state_by, is_online_state, is_online_in, is_online, is_to_blame}
 use Rattle.cluster_types.specs.Unpacked.{cell_at}
 use Rattle.cluster_types.specs.Valid.{IsValid}
-use Rattle.state_unpack.specs.Tally.{tally_of, tally_counted, has_passed}
+use Rattle.state_unpack.specs.Tally.{tally_of}
+use Rattle.state_unpack.specs.Inner.Tally.{tally_counted, has_passed}
 use Rattle.state_unpack.specs.declared.facts.Facts.{Facts}
 use Rattle.state_unpack.specs.declared.signs.Sign.{Sign}
 use Rattle.state_unpack.specs.declared.signs.Sign.TheVariants as sign
-use Rattle.state_unpack.specs.Facts.{facts_of, no_facts}
+use Rattle.state_unpack.specs.Facts.{facts_of}
+use Rattle.state_unpack.specs.Inner.Facts.{no_facts}
 use Rattle.state_unpack.specs.Kept.{KeepsFacts, cell_in}
-use Rattle.state_unpack.specs.Signs.{as_sign, ShowsSigns, state_by_sign}
-use Rattle.state_unpack.specs.CellsKept.{bits_of, counted_of, state_from, cell_from, somewhere, is_fatal, is_stopping, is_blamed, node_from, row_from, has_few_monitors}
+use Rattle.state_unpack.specs.Signs.{as_sign, ShowsSigns}
+use Rattle.state_unpack.specs.Inner.Signs.{state_by_sign}
+use Rattle.state_unpack.specs.Inner.CellsKept.{bits_of, counted_of, state_from, cell_from, somewhere, is_fatal, is_stopping, is_blamed, node_from, row_from}
+use Rattle.state_unpack.specs.Knowledge.{has_few_monitors}
 
 -- the failures that count, by those in force
 module _ (c : Cluster) (r n : ℕ) (es : List Event) where

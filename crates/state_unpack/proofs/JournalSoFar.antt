@@ -9,8 +9,9 @@ use Rattle.cluster_types.specs.NodeStates.{node_state}
 use Rattle.cluster_types.specs.Unpacked.{states_of}
 use Rattle.state_unpack.specs.declared.facts.Facts.{Facts}
 use Rattle.state_unpack.specs.declared.signs.Sign.{Sign}
-use Rattle.state_unpack.specs.CellsKept.{has_few_monitors, is_blamed, node_from, quorum_after, states_from}
-use Rattle.state_unpack.specs.Kept.{TellsEvent}
+use Rattle.state_unpack.specs.Inner.CellsKept.{is_blamed, node_from, quorum_after, states_from}
+use Rattle.state_unpack.specs.Knowledge.{has_few_monitors}
+use Rattle.state_unpack.specs.Inner.Kept.{TellsEvent}
 use Rattle.state_unpack.specs.Known.{Knowledge, Knows, knowledge}
 use Rattle.state_unpack.specs.Signs.{ShowsSigns}
 use Rattle.state_unpack.specs.Inner.Touching.{touches}

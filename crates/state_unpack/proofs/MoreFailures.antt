@@ -11,7 +11,8 @@ use Rattle.cluster_types.specs.declared.journal.Event.{Event}
 use Rattle.cluster_types.specs.Cells.{is_reset}
 use Rattle.cluster_types.specs.Failures.{since_reset, outcomes, is_outcome, is_failure, failures_in_force, is_start, has_code, hard_codes, fatal_codes, wants_stop}
 use Rattle.cluster_types.specs.NodeStates.{wants_fence}
-use Rattle.state_unpack.specs.Tally.{tally_of, with_failure, tally_after}
+use Rattle.state_unpack.specs.Tally.{tally_of}
+use Rattle.state_unpack.specs.Inner.Tally.{with_failure, tally_after}
 
 tally-more : (c : Cluster) (found : List Event) (e : Event) → tally_of c (found ++ e ∷ []) ≡ with_failure c (tally_of c found) e
 tally-more c found e =

@@ -2,6 +2,6 @@ pub mod Inner
 pub mod Facts
 pub mod Kept
 pub mod Signs
-pub mod CellsKept
 pub mod Known
 pub mod Tally
+pub mod Knowledge

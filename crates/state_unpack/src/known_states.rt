@@ -9,7 +9,7 @@ ghost use Rattle.cluster_types.specs.May as may;
 ghost use Rattle.cluster_types.specs.NodeStates.{node_state};
 ghost use Rattle.cluster_types.specs.Unpacked.{states_of};
 ghost use Rattle.cluster_types.specs.Valid.{KeepsLimits};
-ghost use Rattle.state_unpack.specs.CellsKept.{has_few_monitors};
+ghost use Rattle.state_unpack.specs.Knowledge.{has_few_monitors};
 ghost use Rattle.state_unpack.specs.Known.{Knows};
 
 use crate::facts::Facts;

@@ -7,7 +7,7 @@ use Rattle.std.proofs.lemmas.List.{get_or-append-add, get_or_append_left, get_or
 use Rattle.std.proofs.lemmas.List.Folds.{list_any_more}
 use Rattle.edges.specs.declared.edge.Edge.{Edge}
 use Rattle.cluster_types.specs.Inner.Walks.{joins}
-use Rattle.edges.specs.Rows.{no_edge}
+use Rattle.edges.specs.Inner.Rows.{no_edge}
 use Rattle.trace_text.specs.Inner.Arriving.{AreLinked, last_to, leads_to}
 
 -- one edge more

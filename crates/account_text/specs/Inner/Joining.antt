@@ -2,7 +2,7 @@
 use Rattle.std.specs.Prelude.{◌≡◌, ℕ, List, length}
 use Rattle.cluster_types.specs.declared.cluster.Cluster.{Cluster}
 use Rattle.cluster_types.specs.declared.states.States.{States}
-use Rattle.placement.specs.OwnRows.{terms_by}
+use Rattle.placement.specs.Inner.OwnRows.{terms_by}
 use Rattle.placement.specs.Rows.{IsRow}
 use Rattle.account_text.specs.declared.joining.Joined.{Joined}
 

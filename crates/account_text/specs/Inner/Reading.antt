@@ -4,7 +4,7 @@ use Rattle.cluster_types.specs.Valid.{IsValid}
 use Rattle.placement.specs.Promotions.{AreSaid}
 use Rattle.placement.specs.Ties.{AreTies}
 use Rattle.account_text.specs.declared.read.Read.{Read}
-use Rattle.account_text.specs.Journal.{HaveJournal}
+use Rattle.account_text.specs.Inner.Journal.{HaveJournal}
 
 pub record ReadsCluster (read : Read) : Type 0 where
   pub valid : IsValid read.known.cluster.now

@@ -1,6 +1,6 @@
 -- What holds of each statement that was read.
 use Rattle.crm_parse.specs.declared.form.Form.{Form}
-use Rattle.crm_parse.specs.Monitors.{KeepsMonitors}
+use Rattle.crm_parse.specs.Inner.Monitors.{KeepsMonitors}
 use Rattle.crm_parse.specs.Inner.Named.{HasNames}
 
 -- its names are names, and its monitors may stand beside each other

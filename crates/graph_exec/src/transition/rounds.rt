@@ -8,7 +8,8 @@ ghost use Rattle.graph_exec.specs.Inner.Rounds.{Advanced, Answered, StopsAs, ask
 ghost use Rattle.graph_exec.specs.Running.{IsUnderWay, Went, going};
 ghost use Rattle.graph_exec.specs.Transitions.{Accords, EndsAs, GoneTo, HasGoneToEnd, IsExpected, WentAsSaid};
 ghost use Rattle.graph_exec.specs.Telling.{RunView};
-ghost use Rattle.graph_exec.specs.Watching.{Hears, IsQuietAt, IsShownAll, heard_in};
+ghost use Rattle.graph_exec.specs.Watching.{Hears, IsQuietAt, IsShownAll};
+ghost use Rattle.graph_exec.specs.Inner.Watching.{heard_in};
 
 use crate::transition::ends::WatchedEnd;
 use crate::transition::executor::Executor;

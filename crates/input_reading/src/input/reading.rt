@@ -12,8 +12,9 @@ ghost use Rattle.input_reading.specs.FirstJournal.{status_journal};
 ghost use Rattle.input_reading.specs.Results.{most_results, results_of};
 ghost use Rattle.faults.specs.Reading.{Gives, faulting};
 ghost use Rattle.input_reading.specs.declared.input.cause.InputCause.TheVariants as cause;
-ghost use Rattle.input_reading.specs.Reading.{AreStated, configuration_of, head_of, input_of, input_with, line_behind, most_bytes, nothing_yet, start_of, status_and_results, with_cluster, with_results};
-ghost use Rattle.input_reading.specs.Sections.{sections_by};
+ghost use Rattle.input_reading.specs.Reading.{configuration_of, head_of, input_of, line_behind, most_bytes, nothing_yet, start_of, with_cluster, with_results};
+ghost use Rattle.input_reading.specs.Inner.Reading.{AreStated, input_with, status_and_results};
+ghost use Rattle.input_reading.specs.Inner.Sections.{sections_by};
 ghost use Rattle.input_reading.specs.Grammar.LinesSaid.{AsLinesSay};
 ghost use Rattle.input_reading.specs.Grammar.TextsSaid.{InputIsSaid, IsInputRefused, IsStartRefused, StartIsSaid};
 
@@ -137,7 +138,7 @@ fn results_in(
 }
 
 /// What the lines of the status and the result lines tell of a cluster. Its names are made once for both.
-#[tactic(auto, unfolding(crate::specs::Reading::status_and_results))]
+#[tactic(auto, unfolding(crate::specs::Inner::Reading::status_and_results))]
 fn status_and_results(
     alloc: Global,
     cluster: &Cluster,

@@ -5,7 +5,8 @@ ghost use Rattle.std.specs.List.{cons_option, filter_map, range_with_len};
 ghost use Rattle.cluster_types.specs.Journals as journals;
 ghost use Rattle.cluster_types.specs.Valid.{KeepsLimits};
 ghost use Rattle.cluster_types.specs.declared.journal.Event.TheVariants as event;
-ghost use Rattle.input_reading.specs.FirstJournal.{events_of, first_said, history_of, journal_of, leavings, now_of, promotion_in, quorum_of, word_as, word_in};
+ghost use Rattle.input_reading.specs.FirstJournal.{events_of, first_said, history_of, journal_of, now_of, promotion_in, quorum_of, word_as, word_in};
+ghost use Rattle.input_reading.specs.Inner.FirstJournal.{leavings};
 
 use crate::status::line_meaning::{NodeWord, Told};
 use cluster_types::{Cluster, Event, Journal, NodeId, Promotion};

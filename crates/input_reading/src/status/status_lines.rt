@@ -4,7 +4,7 @@ ghost use Rattle.std.specs.Prelude.{◌≡◌, ◌<◌, ◌^◌, ℕ, length, tr
 ghost use Rattle.cluster_types.specs.Journals.{is_history_event};
 ghost use Rattle.cluster_types.specs.declared.journal.Event.TheVariants as event;
 ghost use Rattle.faults.specs.Digits.{number_up_to};
-ghost use Rattle.input_reading.specs.FirstJournal.{is_known};
+ghost use Rattle.input_reading.specs.Inner.FirstJournal.{is_known};
 ghost use Rattle.input_reading.specs.Status.{history_action, cleanup_line, fitting, interval_as, interval_at, may_have, node_line, node_word, now_line, op_at, op_line, outcome_at, outcome_of, promotable, promotable_at, promotion_line, quorum_line, score_at, state_at, status_word, told_as, told_of};
 
 use crate::status::line_meaning::{NodeWord, Told};

@@ -5,7 +5,8 @@ ghost use Rattle.std.specs.List.{list_all};
 ghost use Rattle.cluster_types.specs.declared.journal.Promotion.{Promotion as PromotionOf};
 ghost use Rattle.cluster_types.specs.Journals.{Orderly, in_flight_by_begin, moment_of};
 ghost use Rattle.faults.specs.Reading.{Gives};
-ghost use Rattle.input_reading.specs.FirstJournal.{all_differ, is_known, is_repeated, is_promotion_of_same_cell, journal_of, status_journal, with_status_line, with_status_lines};
+ghost use Rattle.input_reading.specs.FirstJournal.{is_repeated, is_promotion_of_same_cell, journal_of, status_journal, with_status_line, with_status_lines};
+ghost use Rattle.input_reading.specs.Inner.FirstJournal.{all_differ, is_known};
 ghost use Rattle.input_reading.specs.Grammar.LinesSaid.{AsLinesSay, IsStatusRefused, StatusIsSaid};
 
 use crate::status::first_journal::journal_of;

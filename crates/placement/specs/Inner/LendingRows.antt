@@ -6,7 +6,7 @@ use Rattle.score.specs.Total.{total_of}
 use Rattle.cluster_types.specs.declared.cluster.Cluster.{Cluster}
 use Rattle.cluster_types.specs.declared.states.States.{States}
 use Rattle.cluster_types.specs.Terms.{is_tied}
-use Rattle.placement.specs.OwnRows.{terms_by}
+use Rattle.placement.specs.Inner.OwnRows.{terms_by}
 use Rattle.placement.specs.Usable.{is_usable_by}
 
 module _ (c : Cluster) (states : States) where

@@ -11,7 +11,8 @@ ghost use Rattle.cluster_types.specs.Tables.{targets_of};
 ghost use Rattle.cluster_types.specs.Unpacked.{states_of};
 ghost use Rattle.cluster_types.specs.Valid.{KeepsLimits};
 ghost use Rattle.placement.specs.Loads.{IsLoaded};
-ghost use Rattle.placement.specs.Steps.{AreMade, IsMade, Tell};
+ghost use Rattle.placement.specs.Steps.{Tell};
+ghost use Rattle.placement.specs.Inner.Steps.{AreMade, IsMade};
 ghost use Rattle.placement.specs.Scores.{scores_of};
 
 use crate::ScoreTable;

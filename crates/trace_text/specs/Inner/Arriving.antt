@@ -2,7 +2,7 @@
 -- project).
 use Rattle.std.specs.Prelude.{◌≡◌, ◌<◌, ℕ, suc, zero, ◌==◌, Bool, if◌then◌else◌, List, length, slice_index_or}
 use Rattle.edges.specs.declared.edge.Edge.{Edge}
-use Rattle.edges.specs.Rows.{no_edge}
+use Rattle.edges.specs.Inner.Rows.{no_edge}
 
 -- the edge at a place leads to a position
 abbrev pub leads_to : List Edge → ℕ → ℕ → Bool

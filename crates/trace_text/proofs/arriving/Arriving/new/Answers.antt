@@ -1,7 +1,7 @@
 use Rattle.std.proofs.Common.{rules, arith, ◌≡◌, ◌+◌, ◌++◌, ◌∷◌, [], length, get_or, length-append, ap, ◌∙◌, refl}
 use Rattle.std.proofs.lemmas.List.{get_or_read}
 use Rattle.std.proofs.lemmas.List.Elements.{Contains-get_or}
-use Rattle.edges.specs.Rows.{no_edge}
+use Rattle.edges.specs.Inner.Rows.{no_edge}
 use Rattle.trace_text.proofs.Linked.{one_linked}
 use Rattle.trace_text.proofs.arriving.Arriving.new.Goals as goal
 

@@ -1,7 +1,7 @@
 use Rattle.std.proofs.Common.{◌≡◌, ◌<◌, ◌≤◌, ◌-◌, ◌||◌, ℕ, length, take, get_or}
 use Rattle.std.specs.List.{list_any}
 use Rattle.cluster_types.specs.Inner.Walks.{joins}
-use Rattle.edges.specs.Rows.{no_edge}
+use Rattle.edges.specs.Inner.Rows.{no_edge}
 use Rattle.trace_text.specs.Inner.Found.{SameSizes, is_found}
 use Rattle.trace_text.proofs.found_actions.Found.add_sources.Given as goal
 

@@ -9,20 +9,13 @@ use Rattle.cluster_types.specs.declared.journal.Action.TheVariants.{Fence, Probe
 use Rattle.planner.specs.declared.precedence.sides.Join.{Join}
 use Rattle.planner.specs.declared.precedence.sides.Side.{Side}
 use Rattle.planner.specs.declared.precedence.sides.Side.TheVariants as side
-use Rattle.planner.specs.Gates.{edges_of_joins, gate_of, gates_upto, key_at}
+use Rattle.planner.specs.Inner.Gates.{edges_of_joins, gate_of, gates_upto, key_at}
+use Rattle.planner.specs.Within.{IsActionWithin}
 
 -- each cell of a join has a gate whose number has 32 bits
 pub record GatesHaveRoom (c : Cluster) (actions : List Action) (j : Join) (base width : ℕ) : Type 0 where
   pub from : (place : ℕ) (a : CellOf) → key_at c actions j.from place ≡ Some a → gate_of base width a < 4294967296
   pub to : (place : ℕ) (a : CellOf) → key_at c actions j.to place ≡ Some a → gate_of base width a < 4294967296
-
--- the leaves and nodes of an action are those of the cluster
-abbrev pub IsActionWithin : Cluster → Action → Type 0
-IsActionWithin c (Fence n) = n < length c.nodes
-IsActionWithin c (Probe r n) = (r < length c.leaves) × (n < length c.nodes)
-IsActionWithin c (Operation o r n interval role) = (r < length c.leaves) × (n < length c.nodes)
-IsActionWithin c (MigrateTo r source target) = (r < length c.leaves) × (source < length c.nodes) × (target < length c.nodes)
-IsActionWithin c (MigrateFrom r source target) = (r < length c.leaves) × (source < length c.nodes) × (target < length c.nodes)
 
 within_prop : (c : Cluster) (a : Action) → IsProp (IsActionWithin c a)
 within_prop c (Fence n) x y = le_prop x y

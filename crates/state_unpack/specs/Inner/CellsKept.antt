@@ -1,26 +1,25 @@
 -- What is known of cells and nodes, by what is kept of them (follows from the definitions of what is known).
-use Rattle.std.specs.Prelude.{ℕ, ◌^◌, ◌&&◌, ◌||◌, not, Bool, false, if◌then◌else◌, Option, None, List, length, map, get_or, slice_get, sum_by, unwrap_or, nat_le}
-use Rattle.std.specs.List.{flat_map, list_all, list_any, range_with_len}
+use Rattle.std.specs.Prelude.{ℕ, ◌^◌, ◌&&◌, ◌||◌, not, Bool, false, if◌then◌else◌, Option, None, List, length, map, get_or, slice_get, sum_by, unwrap_or}
+use Rattle.std.specs.List.{flat_map, list_any, range_with_len}
 use Rattle.std.specs.Option.{option_map_or}
 use Rattle.cluster_types.specs.declared.cluster.Cluster.{Cluster}
 use Rattle.cluster_types.specs.declared.journal.Event.{Event}
 use Rattle.cluster_types.specs.declared.journal.Event.TheVariants.{Quorum}
 use Rattle.cluster_types.specs.declared.journal.Promotion.{Promotion}
-use Rattle.cluster_types.specs.declared.leaf.Leaf.{Leaf}
 use Rattle.cluster_types.specs.declared.states.Cell.{Cell}
 use Rattle.cluster_types.specs.declared.states.CellState.{CellState}
 use Rattle.cluster_types.specs.declared.states.CellState.TheVariants as cell
 use Rattle.cluster_types.specs.Fields.{is_promotable}
 use Rattle.state_unpack.specs.declared.tally.Tally.{Tally}
-use Rattle.state_unpack.specs.Tally.{tally_counted, bans}
+use Rattle.state_unpack.specs.Inner.Tally.{tally_counted, bans}
 use Rattle.cluster_types.specs.declared.states.NodeState.{NodeState}
 use Rattle.cluster_types.specs.declared.states.States.{States}
 use Rattle.state_unpack.specs.declared.facts.Facts.{Facts}
 use Rattle.state_unpack.specs.declared.signs.Sign.{Sign}
 use Rattle.cluster_types.specs.NodeStates.{is_online_in}
-use Rattle.state_unpack.specs.Facts.{no_facts}
+use Rattle.state_unpack.specs.Inner.Facts.{no_facts}
 use Rattle.state_unpack.specs.Kept.{cell_in}
-use Rattle.state_unpack.specs.Signs.{state_by_sign}
+use Rattle.state_unpack.specs.Inner.Signs.{state_by_sign}
 
 -- the sum of the bits of the monitors that are running
 abbrev pub bits_of : List Bool → ℕ
@@ -93,7 +92,3 @@ states_from c cells signs quorum now promotions =
 abbrev pub quorum_after : Bool → Event → Bool
 quorum_after before (Quorum now) = now
 quorum_after before _ = before
-
--- no leaf has more than eight recurring monitors
-abbrev pub has_few_monitors : Cluster → Bool
-has_few_monitors c = list_all (λ (leaf : Leaf). nat_le (length leaf.monitors) 8) c.leaves

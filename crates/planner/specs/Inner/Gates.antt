@@ -1,5 +1,5 @@
 -- The edges of joins and of chains, through gates.
-use Rattle.std.specs.Prelude.{◌≡◌, ℕ, ◌+◌, ◌*◌, Bool, true, if◌then◌else◌, Option, Some, None, List, [], ◌∷◌, ◌++◌, slice_get, Contains}
+use Rattle.std.specs.Prelude.{ℕ, ◌+◌, ◌*◌, Bool, if◌then◌else◌, Option, Some, None, List, ◌∷◌, ◌++◌, slice_get, []}
 use Rattle.std.specs.List.{flat_map}
 use Rattle.std.specs.Option.{option_map_or}
 use Rattle.cluster_types.specs.declared.cluster.Cluster.{Cluster}
@@ -69,14 +69,3 @@ module _ (is_first is_then : ℕ → Bool) where
   abbrev pub last_gate : ℕ → List ℕ → ℕ
   last_gate gate [] = gate
   last_gate gate (place ∷ places) = last_gate (next_gate gate place) places
-
--- one stands before another in a list
-pub data StandsBefore (x y : ℕ) : List ℕ → Type 0 where
-  here : (places : List ℕ) → Contains places y → StandsBefore x y (x ∷ places)
-  later : (place : ℕ) (places : List ℕ) → StandsBefore x y places → StandsBefore x y (place ∷ places)
-
--- one of the first kind stands before one of the other kind
-pub record InChain (is_first is_then : ℕ → Bool) (places : List ℕ) (x y : ℕ) : Type 0 where
-  pub first : is_first x ≡ true
-  pub then_is : is_then y ≡ true
-  pub before : StandsBefore x y places
