@@ -15,6 +15,7 @@ use Rattle.cluster_model.specs.Settings.{node_names_in}
 abbrev pub place_of_node : List Statement → List ℕ → Option ℕ
 place_of_node statements name = position_from (is name) 0 (flat_map (λ s. node_names_in s.form) statements)
 
+-- its number, and 0 where it isn't there
 abbrev pub node_number : List Statement → List ℕ → ℕ
 node_number statements name = unwrap_or (place_of_node statements name) 0
 
@@ -53,5 +54,6 @@ joins_on_nodes statements (Some first) (Some later) =
     first.cloned && later.cloned && (later.interleave || in_one_group statements first.name later.name)
 joins_on_nodes statements _ _ = false
 
+-- the same of two leaves by their numbers
 abbrev pub is_on_nodes : Leaves → List Statement → ℕ → ℕ → Bool
 is_on_nodes leaves statements first later = joins_on_nodes statements (slice_get leaves.leaves first) (slice_get leaves.leaves later)

@@ -36,7 +36,7 @@ module _ (c : Cluster) (es : List Event) (table : Targets) where
     pub within : n < length c.nodes
     pub chosen : holds_role table col.dependent col.dependent_role n ≡ true
 
-  -- each target that the first of the order has, in its role and in scope, is in the set (so too where it has none)
+  -- each target that the first of the order has, in its role and in scope, is in the set (it may have none)
   abbrev pub LacksFirst : (Decision → ℕ → Type 0) → Order → ℕ → Type 0
   LacksFirst set o n =
       (m : ℕ) → m < length c.nodes → is_in_scope o n m ≡ true → holds_role table o.first (role_given o.first_op) m ≡ true

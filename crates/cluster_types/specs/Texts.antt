@@ -45,7 +45,7 @@ op_word Demote = codes "demote "
 op_word Monitor = codes "monitor "
 
 -- what an event of a transition, or one that comes between two, prints: a begin, an end, or the answer that it came from. What is gone with its node
--- has no line, since the node's loss has one
+-- has no line, since the node's loss has one. An end of number 0 is a report
 abbrev pub event_lines : Event → List RunLine
 event_lines (Begin k a) = line.Begin k a ∷ []
 event_lines (Ended zero (Operation Monitor r n interval role) (Code code) moment) = line.Taken (answer.Report n r interval code) ∷ []

@@ -1,2 +1,2 @@
--- What no public clause rests on: what the code of this crate keeps and counts on the way, for its proofs alone.
+-- What no public clause rests on: what functions of the crates above say within a line, for their proofs alone.
 pub mod Reading

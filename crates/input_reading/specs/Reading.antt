@@ -105,10 +105,12 @@ ReadsInput text input = input_of text ≡ Ok input
 abbrev pub IsTextRefused : List ℕ → ℕ → InputCause → Type 0
 IsTextRefused text line why = input_of text ≡ Err (At line why)
 
+-- the text is read
 pub record IsReadable (text : List ℕ) : Type 0 where
   pub whole : Input
   pub reads : ReadsInput text whole
 
+-- the text isn't read: one of its lines is at fault
 pub record IsFaultyText (text : List ℕ) : Type 0 where
   pub line : ℕ
   pub why : InputCause

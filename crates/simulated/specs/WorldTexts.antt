@@ -43,6 +43,7 @@ pub data IsAtEnd : Bool → RunStanding → Type 0 where
 
 -- the run of the simulated cluster of a number from a journal on, to its end: its transitions, what really runs then, and whether it is over
 module _ (c : Cluster) (journal : Journal) (number : ℕ) where
+  -- the run has come to its end with these lines, and the simulated cluster to this
   pub record IsLived (run : Run) (over : Bool) (w : World) : Type 0 where
     pub at : RunStanding
     pub goes : IsWorldRun c journal.promotions number journal.events (run_lines c run) at w

@@ -62,6 +62,7 @@ pub record StatusIsSaid (c : Cluster) (lines : List Line) (journal : Journal) : 
   pub said : EachLineSays (StatusLineSays c) lines facts
   pub is : journal ≡ journal_of c facts
 
+-- the line of this number is the first of a status that is refused
 abbrev pub IsStatusRefused : Cluster → List Line → ℕ → StatusCause → Type 0
 IsStatusRefused c = IsFirstRefused (StatusLineSays c) (StatusLineRefused c)
 
@@ -88,9 +89,11 @@ pub record ResultLineSays (c : Cluster) (start : ℕ) (before : List ResultLine)
 abbrev pub ResultLineRefused : Cluster → ℕ → List ResultLine → Line → ResultCause → Type 0
 ResultLineRefused c start before line = IsNoAnswer c (moment_after start before) (length before) line.words
 
+-- the result lines say these results, one after another, from a moment on
 abbrev pub ResultsAreSaid : Cluster → ℕ → List Line → List ResultLine → Type 0
 ResultsAreSaid c start = EachLineSays (ResultLineSays c start)
 
+-- the line of this number is the first result line that is refused
 abbrev pub AreResultsRefused : Cluster → ℕ → List Line → ℕ → ResultCause → Type 0
 AreResultsRefused c start = IsFirstRefused (ResultLineSays c start) (ResultLineRefused c start)
 
@@ -103,8 +106,10 @@ pub record RunLineSays (c : Cluster) (before : List RunTextLine) (line : Line) (
 abbrev pub RunLineRefused : Cluster → List RunTextLine → Line → WordCause → Type 0
 RunLineRefused c before line cause = (what : RunLine) → RunSays c line.words what → ⊥
 
+-- each line of a run says what is read of it
 abbrev pub RunIsSaid : Cluster → List Line → List RunTextLine → Type 0
 RunIsSaid c = EachLineSays (RunLineSays c)
 
+-- the line of this number is the first of a run that is refused
 abbrev pub IsRunRefused : Cluster → List Line → ℕ → WordCause → Type 0
 IsRunRefused c = IsFirstRefused (RunLineSays c) (RunLineRefused c)

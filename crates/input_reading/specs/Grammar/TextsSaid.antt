@@ -89,6 +89,7 @@ IsStartRefused text = IsHeadRefused sections_of text
 abbrev pub TraceIsSaid : List ℕ → Trace → Type 0
 TraceIsSaid text trace = IsHeadSaid sections_with_trace (λ head lines. RunIsSaid head.cluster lines trace.run.lines) text trace.head
 
+-- a line of the head is refused, or the head is said and a line of the run is refused
 pub data IsTraceLineRefused (text : List ℕ) (number : ℕ) : InputCause → Type 0 where
   trace_head_refused : (why : InputCause) → IsHeadRefused sections_with_trace text number why → IsTraceLineRefused text number why
   run_line_refused : (head : Head) (why : WordCause) → IsHeadSaid sections_with_trace (λ head lines. IsRunRefused head.cluster lines number why) text head
