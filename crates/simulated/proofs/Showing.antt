@@ -8,8 +8,8 @@ use Rattle.simulated.specs.declared.real.Standing.{Standing}
 use Rattle.cases.specs.Draws.{draw, next_state, state_after, taken_of}
 use Rattle.cases.proofs.DrawLaws.{state_more}
 use Rattle.simulated.specs.Kept.{Holds, HoldsNodes, IsAlone, RealityOf, ShowsWorld, reality}
-use Rattle.simulated.specs.Turns.{after_begin, calm}
-use Rattle.simulated.specs.Inner.Turns.{with_draws}
+use Rattle.simulated.specs.Turns.{after_begin}
+use Rattle.simulated.specs.Inner.Turns.{calm, with_draws}
 use Rattle.simulated.specs.RealWorlds.{Cells, World, begun, done, is_rising, risen, undone, without_node}
 use Rattle.simulated.proofs.Holding.{begun_rising, cleared_rising, done_rising, undone_rising}
 

@@ -4,8 +4,8 @@ ghost use Rattle.std.specs.Prelude.{◌≡◌, ◌*◌, ◌+◌, ◌<◌, None, 
 ghost use Rattle.cluster_types.specs.Valid.{KeepsLimits};
 ghost use Rattle.cases.specs.Draws as drawing;
 ghost use Rattle.simulated.specs.Kept.{IsOfSame, NoneRises, ShowsWorld, reality};
-ghost use Rattle.simulated.specs.Turns.{after_begin, calm};
-ghost use Rattle.simulated.specs.Inner.Turns.{with_draws};
+ghost use Rattle.simulated.specs.Turns.{after_begin};
+ghost use Rattle.simulated.specs.Inner.Turns.{calm, with_draws};
 ghost use Rattle.simulated.specs.RealWorlds as worlds;
 ghost use Rattle.simulated.specs.RealWorlds.{World};
 
