@@ -1,5 +1,5 @@
 -- What comes of an input line by line, and what is read of it whole.
-use Rattle.std.proofs.Common.{arith, ◌≡◌, ◌≤◌, ◌+◌, ◌-◌, ℕ, true, false, List, [], ◌∷◌, ◌++◌, length, length-append, drop, codes, Result, Ok, Err, append_assoc, append-nil, refl, sym, ap, subst, ◌∙◌}
+use Rattle.std.proofs.Common.{arith, ◌≡◌, ◌≤◌, ◌+◌, ℕ, true, false, List, [], ◌∷◌, ◌++◌, length, length-append, drop, codes, Result, Ok, Err, append_assoc, append-nil, refl, sym, ap, subst, ◌∙◌}
 use Rattle.std.specs.Prelude.{Option, Some, None}
 use Rattle.std.specs.List.{list_any}
 use Rattle.std.proofs.Math.Seq.{drop-append_seam}
@@ -11,6 +11,7 @@ use Rattle.crm_lex.proofs.Pieces.{own_lines}
 use Rattle.crm_parse.specs.declared.fault.ParseCause.TheVariants.{UnknownStatement}
 use Rattle.crm_parse.specs.declared.marks.SectionMarks.{SectionMarks}
 use Rattle.crm_parse.specs.Marks.{marks_unless, misplaced, sections_of}
+use Rattle.crm_parse.proofs.PairWords.{place-behind}
 use Rattle.crm_parse.proofs.Unmarked.{all_placed}
 use Rattle.faults.specs.declared.fault.Fault.{Fault}
 use Rattle.faults.specs.declared.fault.Fault.TheVariants.{At}
@@ -37,7 +38,7 @@ use Rattle.sim_core.specs.LineByLine.{ComesLineByLine}
 use Rattle.sim_core.specs.Replay.{coming_behind, head_in}
 use Rattle.sim_core.proofs.InputSteps.{HasSections, configuration_in, has_sections, head_first, marks_by, status_in, steps_on, with_last, without_last, without_sections}
 use Rattle.sim_core.proofs.PlainResults.{plain_results}
-use Rattle.sim_core.proofs.TraceSections.{first_behind, first_nowhere, misplaced_joined, misplaced_parts, results_line}
+use Rattle.sim_core.proofs.TraceSections.{first_nowhere, misplaced_joined, misplaced_parts, results_line}
 
 abbrev last : List ℕ
 last = codes "%results"
@@ -92,9 +93,9 @@ module _ (bytes text : List ℕ) (rows others : List Line) (are : reads bytes �
       let lines : rows ++ others ≡ front ++ mark ∷ others = ap (λ (ls : List Line). ls ++ others) ends ∙ append_assoc front (mark ∷ []) others in
       joined (configuration_in front) (status_in front)
       (with_last sections_of (λ all. nothing_yet) bytes last front mark [] (are ∙ ap Ok ends)
-      (there (front ++ mark ∷ []) (subst (λ (ls : List Line). misplaced last [] ls ≡ None) ends placed)) (first_behind results_line front mark [] none begins))
+      (there (front ++ mark ∷ []) (subst (λ (ls : List Line). misplaced last [] ls ≡ None) ends placed)) (place-behind results_line front mark [] none begins))
       (with_last sections_of (λ all. with_results) text last front mark others (all ∙ ap Ok lines)
-      (there (front ++ mark ∷ others) (subst (λ (ls : List Line). misplaced last [] ls ≡ None) lines all_placed)) (first_behind results_line front mark others none begins))
+      (there (front ++ mark ∷ others) (subst (λ (ls : List Line). misplaced last [] ls ≡ None) lines all_placed)) (place-behind results_line front mark others none begins))
 
   out_of_place : (line : ℕ) → misplaced last [] rows ≡ Some line → misplaced last [] (rows ++ others) ≡ Some line → AsTogether
   unfolding AsTogether input_of start_of

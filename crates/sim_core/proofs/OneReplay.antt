@@ -1,5 +1,5 @@
 -- An input gets one status with the word `replay`.
-use Rattle.std.proofs.Common.{◌≡◌, ◌⊎◌, inl, inr, ℕ, List, Ok, Err, refl, sym, ◌∙◌, ap, subst}
+use Rattle.std.proofs.Common.{◌≡◌, inl, inr, ℕ, List, Ok, Err, refl, sym, ◌∙◌, ap, subst}
 use Rattle.cluster_types.specs.declared.cluster.Cluster.{Cluster}
 use Rattle.cluster_types.specs.declared.journal.Journal.{Journal}
 use Rattle.faults.specs.declared.fault.Fault.TheVariants.{At}

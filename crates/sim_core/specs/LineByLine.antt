@@ -1,5 +1,5 @@
 -- An input that is read line by line, as the word `replay` reads it, beside one that is read whole, as the other words read it (rule of this project).
-use Rattle.std.specs.Prelude.{◌≡◌, ℕ, Bool, false, Option, Some, None, List, drop, length, Ok}
+use Rattle.std.specs.Prelude.{◌≡◌, ℕ, false, Some, None, List, drop, length, Ok}
 use Rattle.std.specs.List.{list_any}
 use Rattle.crm_lex.specs.Reading.{reads}
 use Rattle.crm_lex.specs.declared.fault.LexCause.{LexCause}
