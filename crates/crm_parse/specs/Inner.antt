@@ -2,5 +2,5 @@
 pub mod GivenKeys
 pub mod KeySets
 pub mod Monitors
-pub mod Named
+pub mod StatementNames
 pub mod ReadForms

@@ -2,4 +2,4 @@ pub mod Inner
 pub mod Quoting
 pub mod Items
 pub mod Text
-pub mod Again
+pub mod PrintedAgain

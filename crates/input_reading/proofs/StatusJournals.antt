@@ -15,10 +15,10 @@ use Rattle.cluster_types.specs.declared.leaf.Op.{Op}
 use Rattle.cluster_types.specs.declared.leaf.Op.TheVariants.{Start, Stop, Promote, Demote, Monitor}
 use Rattle.cluster_types.specs.declared.leaf.Role.{Role}
 use Rattle.cluster_types.specs.Fields.{monitors}
-use Rattle.cluster_types.specs.Answering.{role_of_interval}
+use Rattle.cluster_types.specs.AnswersThatApply.{role_of_interval}
 use Rattle.cluster_types.specs.Journals.{Orderly, in_flight_by_begin, is_history_event}
 use Rattle.faults.specs.Reading.{◌>>=◌, faulting, on_line}
-use Rattle.input_reading.specs.Places.{WordsOfLine, line_end_at, leaf_at, node_at, seconds_at, word_at, yes_at}
+use Rattle.input_reading.specs.WordPlaces.{WordsOfLine, line_end_at, leaf_at, node_at, seconds_at, word_at, yes_at}
 use Rattle.input_reading.proofs.Bounds.{node_known, seconds_small}
 use Rattle.input_reading.proofs.Steps.{any_step, either_way, step}
 use Rattle.input_reading.specs.FirstJournal as journals

@@ -2,5 +2,5 @@
 pub mod FirstJournal
 pub mod Reading
 pub mod Repeats
-pub mod Said
+pub mod LentLines
 pub mod Sections

@@ -66,8 +66,8 @@ head_of crm cluster lines = do
 -- the last steps, where this says how what follows the status is read, by the head before it
 module _ {X : Type 0} (read_on : Head → List Line → Result X (Fault InputCause)) where
   -- behind the cluster come the status and what follows it
-  abbrev pub with_cluster : Configuration → Cluster → Result X (Fault InputCause)
-  with_cluster found cluster =
+  abbrev pub behind_cluster : Configuration → Cluster → Result X (Fault InputCause)
+  behind_cluster found cluster =
       head_of found.crm cluster (status_lines found.marks found.lines) >>= (λ head. read_on head (following_lines found.marks found.lines))
 
 -- the steps of reading a text that has these sections, where what follows the status is read so, from all lines and the head. They are the words of all
@@ -77,7 +77,7 @@ abbrev pub reading_steps : {X : Type 0} (sections : List Line → Result Section
 reading_steps sections read_on text = do
   found ← configuration_of sections text
   cluster ← faulting cause.Cluster (resolution_of found.leaves found.crm.statements)
-  with_cluster (read_on found.lines) found cluster
+  behind_cluster (read_on found.lines) found cluster
 
 -- what follows isn't read
 abbrev pub nothing_yet : Head → List Line → Result Head (Fault InputCause)
@@ -94,8 +94,8 @@ unfoldable pub input_of : List ℕ → Result Input (Fault InputCause)
 input_of text = reading_steps sections_of (λ all. with_results) text
 
 -- what is read of a head that stands alone, or its fault: the same steps without the last
-unfoldable pub start_of : List ℕ → Result Head (Fault InputCause)
-start_of text = reading_steps sections_of (λ all. nothing_yet) text
+unfoldable pub lone_head_of : List ℕ → Result Head (Fault InputCause)
+lone_head_of text = reading_steps sections_of (λ all. nothing_yet) text
 
 -- the text is read, and says this
 abbrev pub ReadsInput : List ℕ → Input → Type 0

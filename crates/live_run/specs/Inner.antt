@@ -6,5 +6,5 @@ pub mod PlainLines
 pub mod ReadLaws
 pub mod ReadSteps
 pub mod RunEnds
-pub mod Saying
-pub mod Writing
+pub mod LineFits
+pub mod WriteResults

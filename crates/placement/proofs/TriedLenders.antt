@@ -11,7 +11,7 @@ use Rattle.placement.specs.Inner.LendingRows.{leaves_a_node_by}
 use Rattle.placement.specs.OwnRows.{own_by}
 use Rattle.placement.specs.Inner.OwnRows.{terms_by}
 use Rattle.placement.specs.Rows.{IsRow}
-use Rattle.placement.specs.Usable.{is_usable_by}
+use Rattle.placement.specs.UsableNodes.{is_usable_by}
 use Rattle.placement.proofs.Lenders.{terms-more}
 use Rattle.placement.proofs.TermRows.{row-same}
 

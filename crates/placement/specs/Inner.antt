@@ -1,10 +1,10 @@
 -- What no public clause rests on: what the code of this crate keeps and counts on the way, for its proofs alone.
-pub mod Allowed
-pub mod Chosen
-pub mod Counted
+pub mod AllowedNodes
+pub mod ChosenTable
+pub mod CountedScores
 pub mod DecisionLists
 pub mod Dependencies
-pub mod Effective
+pub mod EffectiveKeys
 pub mod Flags
 pub mod Lending
 pub mod LendingRows

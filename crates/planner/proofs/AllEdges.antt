@@ -18,9 +18,9 @@ use Rattle.planner.specs.Inner.Gates.{edges_of_joins}
 use Rattle.planner.specs.Inner.Groups.{AddsGroup}
 use Rattle.planner.specs.Joins.{joins_of}
 use Rattle.planner.specs.Inner.Places.{places_of}
-use Rattle.planner.specs.Precede.{AreEdges, first_gates, most_positions}
+use Rattle.planner.specs.PrecedenceEdges.{AreEdges, first_gates, most_positions}
 use Rattle.planner.specs.Inner.Rooms.{Builds, rows_of_join, width_of_join}
-use Rattle.planner.specs.Within.{IsActionWithin}
+use Rattle.planner.specs.ActionNames.{IsActionWithin}
 use Rattle.planner.specs.Inner.Serials.{most_serial, serial_room}
 use Rattle.planner.proofs.AllJoins.{JoinFits, leads_precede, whole_group}
 use Rattle.planner.proofs.Bound.{joins_few_apart, most_other}

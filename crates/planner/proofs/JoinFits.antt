@@ -13,7 +13,7 @@ use Rattle.planner.specs.Inner.Gates.{key_at}
 use Rattle.planner.specs.Joins.{side_key_of}
 use Rattle.planner.specs.Inner.Places.{all_places, is_of_leaf, leaf_places, places_by, places_of, rule_places, side_leaf}
 use Rattle.planner.specs.Inner.Rooms.{IsEven, rows_of, width_of}
-use Rattle.planner.specs.Within.{IsActionWithin}
+use Rattle.planner.specs.ActionNames.{IsActionWithin}
 use Rattle.planner.proofs.JoinGroups.{Fits}
 use Rattle.planner.proofs.KeysRoom.{place_within}
 use Rattle.planner.proofs.LeafKeys.{of_side}

@@ -10,7 +10,7 @@ use Rattle.cluster_types.specs.declared.rules.Order.{Order}
 use Rattle.planner.specs.Chains.{IsChained, changes_at}
 use Rattle.planner.specs.Inner.Chains.{IsChainedSomewhere, is_at, changed_node_at, node_places}
 use Rattle.planner.specs.Inner.Groups.{AddsGroup}
-use Rattle.planner.specs.Within.{IsActionWithin}
+use Rattle.planner.specs.ActionNames.{IsActionWithin}
 use Rattle.planner.proofs.Adding.{adds_after, adds_none, adds_says}
 use Rattle.planner.proofs.BucketsMore.{node_within}
 use Rattle.lemmas.proofs.Members.{of_filter}

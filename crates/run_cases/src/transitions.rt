@@ -4,7 +4,7 @@ ghost use Rattle.std.specs.Prelude.{◌≡◌, true};
 ghost use Rattle.cluster_types.specs.Valid.{KeepsLimits};
 ghost use Rattle.state_unpack.specs.Knowledge.{has_few_monitors};
 
-use crate::shown::{DONE, FAILED, NOT_RUNNING, Shown, are_shown};
+use crate::shown_events::{DONE, FAILED, NOT_RUNNING, Shown, are_shown};
 use crate::small_graphs::{PROBE_1, PROBE_2, Plan, START_1, executor_of};
 use crate::starts::{TWO, start_of};
 use cluster_types::{Action, Answer, Cluster, Edge, Event, Journal, Op, Outcome, Role};

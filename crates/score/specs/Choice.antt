@@ -9,8 +9,8 @@ abbrev pub points_at : List ℤ → ℕ → ℤ
 points_at totals node = slice_index_or totals node (pos 0)
 
 -- the node's total is 0 or more
-abbrev pub is_candidate_node : List ℤ → ℕ → Bool
-is_candidate_node totals node = not (is_negative (points_at totals node))
+abbrev pub has_enough : List ℤ → ℕ → Bool
+has_enough totals node = not (is_negative (points_at totals node))
 
 -- the first node has the greater total, or as great a total and the smaller load, or both alike and the smaller number
 abbrev pub GoesBefore : List ℤ → List ℕ → ℕ → ℕ → Type 0

@@ -4,4 +4,4 @@ pub mod ScoreText
 pub mod Choice
 pub mod NodeSet
 pub mod Row
-pub mod Stored
+pub mod StoredRows

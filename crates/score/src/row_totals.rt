@@ -2,8 +2,8 @@ ghost use Rattle.std.specs.Prelude.{◌≡◌, ◌+◌, ◌<◌, ◌≤◌, ℕ,
 ghost use Rattle.score.specs.Choice.{points_at};
 ghost use Rattle.score.specs.Row.{Stands};
 ghost use Rattle.score.specs.Inner.Row.{tally_total};
-ghost use Rattle.score.specs.Stored.{stored_tally, bias};
-ghost use Rattle.score.specs.Inner.Stored.{stored_total, stored_least, stored_most};
+ghost use Rattle.score.specs.StoredRows.{stored_tally, bias};
+ghost use Rattle.score.specs.Inner.StoredTotals.{stored_total, stored_least, stored_most};
 ghost use Rattle.score.specs.Total.{total_of};
 
 use crate::form::Form;

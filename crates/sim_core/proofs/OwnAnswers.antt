@@ -11,18 +11,18 @@ use Rattle.cluster_types.specs.declared.journal.Journal.{Journal}
 use Rattle.cluster_types.specs.declared.journal.Promotion.{Promotion}
 use Rattle.cluster_types.specs.declared.run.RunLine.{RunLine}
 use Rattle.cluster_types.specs.declared.run.RunLine.TheVariants as line
-use Rattle.cluster_types.specs.Answering.{is_number_of}
+use Rattle.cluster_types.specs.AnswersThatApply.{is_number_of}
 use Rattle.cluster_types.specs.Plans.{transition_of}
 use Rattle.cluster_types.specs.Runs.{RunStanding, due, amid, idle, RunsOn, plans, goes, completes, aborts, answers, Runs, here, one_more, IsOver, IsWholeRun}
 use Rattle.cluster_types.specs.Sources.{told, used_up}
 use Rattle.cluster_types.specs.Steps.{Transition, StepsOn, begins, takes, is_silent, TakesAnswer, answer_events, silent_code}
 use Rattle.cluster_types.specs.Texts.{event_lines}
-use Rattle.graph_exec.specs.Telling.{plan_lines}
+use Rattle.graph_exec.specs.WatcherLines.{plan_lines}
 use Rattle.lemmas.proofs.Booleans.{number_itself}
 use Rattle.run_safety.proofs.InFlight.{among_flying}
 use Rattle.run_safety.proofs.Printed.{answer_line}
 use Rattle.sim_core.specs.Inner.Auditors.{is_event_line}
-use Rattle.sim_core.specs.Lawful.{IsLawfulRun, answer_in, answers_of_lines}
+use Rattle.sim_core.specs.LawfulRuns.{IsLawfulRun, answer_in, answers_of_lines}
 use Rattle.sim_core.proofs.Shows.{none_of_plan}
 
 -- lines none of which is of an event tell no answer

@@ -13,7 +13,7 @@ use Rattle.input_reading.specs.declared.history_fault.ResultCause.TheVariants as
 use Rattle.input_reading.specs.declared.results.result_lines.ResultLine.{ResultLine}
 use Rattle.input_reading.specs.declared.words.word_cause.WordCause.{WordCause}
 use Rattle.input_reading.specs.declared.words.word_cause.WordCause.TheVariants.{UnknownStatement}
-use Rattle.input_reading.specs.Places.{WordsOfLine}
+use Rattle.input_reading.specs.WordPlaces.{WordsOfLine}
 use Rattle.input_reading.specs.Results.{answer_of, moment_after, result_of, result_word, with_result, with_result_lines}
 
 -- no result line begins with a percent sign

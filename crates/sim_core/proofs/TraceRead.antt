@@ -20,13 +20,13 @@ use Rattle.input_reading.specs.declared.run.text.RunTextLine.{RunTextLine}
 use Rattle.input_reading.specs.declared.words.word_cause.WordCause.{WordCause}
 use Rattle.input_reading.specs.declared.words.word_cause.WordCause.TheVariants.{UnknownStatement}
 use Rattle.input_reading.specs.LineWords.{line_word}
-use Rattle.input_reading.specs.Places.{WordsOfLine}
-use Rattle.input_reading.specs.Reading.{line_behind, nothing_yet, start_of}
+use Rattle.input_reading.specs.WordPlaces.{WordsOfLine}
+use Rattle.input_reading.specs.Reading.{line_behind, nothing_yet, lone_head_of}
 use Rattle.input_reading.specs.Results.{answer_of, result_word}
 use Rattle.input_reading.specs.RunReading.{answer_line, line_of_words, read_run_lines, text_line, with_run_lines}
 use Rattle.input_reading.specs.Sections.{sections_with_trace}
 use Rattle.input_reading.specs.Traces.{trace_of, with_run}
-use Rattle.sim_core.specs.Lawful.{said}
+use Rattle.sim_core.specs.LawfulRuns.{said}
 use Rattle.sim_core.proofs.InputAgain.{in_place, same_ok}
 use Rattle.sim_core.proofs.InputSteps.{configuration_in, has_sections, head_first, marks_by, status_in, steps_on, with_last}
 use Rattle.sim_core.proofs.PlainResults.{plain_read}
@@ -102,9 +102,9 @@ plain_lines c so_far (at ∷ rows) out e =
     rw (plain, more) refl
 
 -- behind the line that ends a head stand no lines; in the place of that line a trace begins, whose lines are read as a run somewhere
-module _ (bytes text : List ℕ) (rows : List Line) (n : ℕ) (head : Head) (says : start_of bytes ≡ Ok head) (are : reads bytes ≡ Ok (rows ++ results_mark n ∷ [])) where
+module _ (bytes text : List ℕ) (rows : List Line) (n : ℕ) (head : Head) (says : lone_head_of bytes ≡ Ok head) (are : reads bytes ≡ Ok (rows ++ results_mark n ∷ [])) where
   placed_head : misplaced (codes "%results") [] (rows ++ results_mark n ∷ []) ≡ None
-  unfolding start_of
+  unfolding lone_head_of
   placed_head =
       let found = has_sections sections_of (λ all. nothing_yet) bytes head says in
       in_place (rows ++ results_mark n ∷ []) found.marks
@@ -116,8 +116,8 @@ module _ (bytes text : List ℕ) (rows : List Line) (n : ℕ) (head : Head) (say
   placed_front : misplaced (codes "%results") [] rows ≡ None
   placed_front = (misplaced_parts (codes "%results") [] rows (results_mark n ∷ []) placed_head).0
 
-  start : start_of bytes ≡ steps_on (configuration_in rows) (status_in rows) (λ head. Ok head)
-  unfolding start_of
+  start : lone_head_of bytes ≡ steps_on (configuration_in rows) (status_in rows) (λ head. Ok head)
+  unfolding lone_head_of
   start =
       with_last sections_of (λ all. nothing_yet) bytes (codes "%results") rows (results_mark n) [] are (rw placed_head refl)
       (place-behind results_line rows (results_mark n) [] unended refl)

@@ -8,7 +8,7 @@ use Rattle.cluster_types.specs.declared.journal.Promotion.{Promotion}
 use Rattle.cluster_types.specs.declared.run.Run.{Run}
 use Rattle.cluster_types.specs.Runs.{RunStanding, due, amid, idle, Runs, IsOver, journal_at}
 use Rattle.cluster_types.specs.Texts.{run_lines}
-use Rattle.graph_exec.specs.Kept.{IsKept, KeepsPlans}
+use Rattle.graph_exec.specs.KeptRuns.{IsKept, KeepsPlans}
 use Rattle.graph_exec.specs.RunEnds.{with_all}
 use Rattle.run_safety.proofs.Along.{journals_grow}
 use Rattle.simulated.specs.Lives.{Lives}

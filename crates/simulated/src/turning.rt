@@ -2,7 +2,7 @@
 
 ghost use Rattle.std.specs.Prelude.{◌≡◌, ◌+◌, ◌<◌, None, IfSome, length};
 ghost use Rattle.cases.specs.Draws as drawing;
-ghost use Rattle.simulated.specs.Kept.{IsOfSame, ShowsWorld};
+ghost use Rattle.simulated.specs.KeptReality.{IsOfSame, ShowsWorld};
 ghost use Rattle.simulated.specs.Inner.NodeTurns as node_turns;
 ghost use Rattle.simulated.specs.Inner.NodeTurns.{IsForNode, IsOfNode, draws_for_node};
 ghost use Rattle.simulated.specs.Turns as turns;

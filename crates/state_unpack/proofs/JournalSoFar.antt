@@ -6,12 +6,12 @@ use Rattle.cluster_types.specs.declared.journal.Event.{Event}
 use Rattle.cluster_types.specs.declared.journal.Promotion.{Promotion}
 use Rattle.cluster_types.specs.Journals.{last_sign, moment_of, seconds_of}
 use Rattle.cluster_types.specs.NodeStates.{node_state}
-use Rattle.cluster_types.specs.Unpacked.{states_of}
+use Rattle.cluster_types.specs.UnpackedStates.{states_of}
 use Rattle.state_unpack.specs.declared.facts.Facts.{Facts}
 use Rattle.state_unpack.specs.declared.signs.Sign.{Sign}
 use Rattle.state_unpack.specs.Inner.CellsKept.{is_blamed, node_from, quorum_after, states_from}
 use Rattle.state_unpack.specs.Knowledge.{has_few_monitors}
-use Rattle.state_unpack.specs.Inner.Kept.{TellsEvent}
+use Rattle.state_unpack.specs.Inner.ToldCells.{TellsEvent}
 use Rattle.state_unpack.specs.Known.{Knowledge, Knows, knowledge}
 use Rattle.state_unpack.specs.Signs.{ShowsSigns}
 use Rattle.state_unpack.specs.Inner.Touching.{touches}

@@ -15,8 +15,8 @@ use Rattle.cluster_types.proofs.TableCells.{ordered, same_place, get-at, same_ce
 use Rattle.state_unpack.specs.declared.facts.Facts.{Facts}
 use Rattle.state_unpack.specs.Facts.{facts_of, monitor_runs}
 use Rattle.state_unpack.specs.Inner.Facts.{facts_after, no_facts}
-use Rattle.state_unpack.specs.Kept.{IsFull, cell_in, KeepsFacts}
-use Rattle.state_unpack.specs.Inner.Kept.{TellsEvent}
+use Rattle.state_unpack.specs.KeptCells.{IsFull, cell_in, KeepsFacts}
+use Rattle.state_unpack.specs.Inner.ToldCells.{TellsEvent}
 use Rattle.state_unpack.specs.Inner.Touching.{touches}
 use Rattle.state_unpack.proofs.MoreFacts.{facts-after}
 use Rattle.state_unpack.proofs.StillFacts.{facts-stay}

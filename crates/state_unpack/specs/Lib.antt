@@ -1,6 +1,6 @@
 pub mod Inner
 pub mod Facts
-pub mod Kept
+pub mod KeptCells
 pub mod Signs
 pub mod Known
 pub mod Tally

@@ -3,8 +3,8 @@
 ghost use Rattle.std.specs.Prelude.{◌==◌, ◌||◌, [], IfOk};
 ghost use Rattle.cluster_types.specs.Cells.{is_same_cell};
 ghost use Rattle.cluster_types.specs.Valid.{KeepsLimits};
-ghost use Rattle.state_unpack.specs.Kept.{IsFull, KeepsFacts};
-ghost use Rattle.state_unpack.specs.Inner.Kept.{TellsEvent};
+ghost use Rattle.state_unpack.specs.KeptCells.{IsFull, KeepsFacts};
+ghost use Rattle.state_unpack.specs.Inner.ToldCells.{TellsEvent};
 ghost use Rattle.state_unpack.specs.Inner.Touching.{action_touches, touches};
 
 use crate::facts::Facts;

@@ -1,6 +1,6 @@
 -- What a decision reads to choose its nodes (follows from the definitions of which nodes a decision chooses).
 use Rattle.std.specs.Prelude.{ℕ, ◌&&◌, ◌||◌, min, Bool, false, if◌then◌else◌, ℤ, List, ◌∷◌, slice_get, unwrap_or, []}
-use Rattle.score.specs.Choice.{is_candidate_node}
+use Rattle.score.specs.Choice.{has_enough}
 use Rattle.score.specs.Total.{total_of}
 use Rattle.cluster_types.specs.declared.cluster.Cluster.{Cluster}
 use Rattle.cluster_types.specs.declared.placement.Decision.{Decision}
@@ -13,7 +13,7 @@ use Rattle.cluster_types.specs.Fields.{copies, promoted_copies, target_role_of}
 use Rattle.cluster_types.specs.Tables.{Targets}
 use Rattle.placement.specs.declared.totals.table.ScoreTable.{ScoreTable}
 use Rattle.placement.specs.Scores.{score_in}
-use Rattle.placement.specs.Usable.{is_usable_by}
+use Rattle.placement.specs.UsableNodes.{is_usable_by}
 use Rattle.placement.specs.Reads.{is_kept_in, may_stay_in}
 
 -- on how many nodes a leaf is promoted at most
@@ -42,7 +42,7 @@ module _ (c : Cluster) (states : States) where
     -- the node may be chosen, where these are the totals
     abbrev pub is_candidate_in : Targets → Decision → List ℤ → ℕ → Bool
     is_candidate_in table d totals n =
-        (is_open_in table d n && (has_primaries c table d n && is_apart c table d n)) && is_candidate_node totals n
+        (is_open_in table d n && (has_primaries c table d n && is_apart c table d n)) && has_enough totals n
 
 -- the total of a decision on a node, with the table so far
 abbrev pub total_in : Cluster → ScoreTable → Targets → Decision → ℕ → ℤ

@@ -8,7 +8,7 @@ ghost use Rattle.cluster_types.specs.Choice.{after_decisions, target_by};
 ghost use Rattle.cluster_types.specs.Decisions.{leaf_of};
 ghost use Rattle.cluster_types.specs.Plans.{with_totals};
 ghost use Rattle.cluster_types.specs.Tables.{targets_of};
-ghost use Rattle.cluster_types.specs.Unpacked.{states_of};
+ghost use Rattle.cluster_types.specs.UnpackedStates.{states_of};
 ghost use Rattle.cluster_types.specs.Valid.{KeepsLimits};
 ghost use Rattle.placement.specs.Loads.{IsLoaded};
 ghost use Rattle.placement.specs.Steps.{Tell};

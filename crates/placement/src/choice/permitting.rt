@@ -6,7 +6,7 @@ ghost use Rattle.cluster_types.specs.Tables.{targets_of};
 ghost use Rattle.score.specs.NodeSet.{has};
 ghost use Rattle.placement.specs.Reads as spec;
 ghost use Rattle.placement.specs.Inner.Reads as inner;
-ghost use Rattle.placement.specs.Usable.{is_usable_by};
+ghost use Rattle.placement.specs.UsableNodes.{is_usable_by};
 
 use crate::choice::cells::{active_count, is_kept};
 use crate::choice::inputs::Known;

@@ -10,7 +10,7 @@ use Rattle.planner.specs.declared.precedence.sides.Join.{Join}
 use Rattle.planner.specs.declared.precedence.sides.Side.{Side}
 use Rattle.planner.specs.declared.precedence.sides.Side.TheVariants as side
 use Rattle.planner.specs.Inner.Gates.{edges_of_joins, gate_of, gates_upto, key_at}
-use Rattle.planner.specs.Within.{IsActionWithin}
+use Rattle.planner.specs.ActionNames.{IsActionWithin}
 
 -- each cell of a join has a gate whose number has 32 bits
 pub record GatesHaveRoom (c : Cluster) (actions : List Action) (j : Join) (base width : ℕ) : Type 0 where

@@ -3,7 +3,7 @@ use Rattle.std.specs.Prelude.{◌≡◌, ℕ}
 use Rattle.cluster_types.specs.declared.cluster.Cluster.{Cluster}
 use Rattle.cluster_types.specs.declared.journal.Journal.{Journal}
 use Rattle.simulated.specs.RealWorlds.{World}
-use Rattle.simulated.specs.Kept.{ShowsWorld}
+use Rattle.simulated.specs.KeptReality.{ShowsWorld}
 use Rattle.simulated.specs.Worlds.{WorldOf}
 use Rattle.simulated.specs.declared.living.Lived.{Lived}
 use Rattle.simulated.specs.WorldTexts.{IsLived}

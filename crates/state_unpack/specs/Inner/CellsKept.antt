@@ -18,7 +18,7 @@ use Rattle.state_unpack.specs.declared.facts.Facts.{Facts}
 use Rattle.state_unpack.specs.declared.signs.Sign.{Sign}
 use Rattle.cluster_types.specs.NodeStates.{is_online_in}
 use Rattle.state_unpack.specs.Inner.Facts.{no_facts}
-use Rattle.state_unpack.specs.Kept.{cell_in}
+use Rattle.state_unpack.specs.KeptCells.{cell_in}
 use Rattle.state_unpack.specs.Inner.Signs.{state_by_sign}
 
 -- the sum of the bits of the monitors that are running

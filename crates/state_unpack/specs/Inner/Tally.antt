@@ -4,10 +4,10 @@ use Rattle.std.specs.Option.{option_map_or}
 use Rattle.cluster_types.specs.declared.cluster.Cluster.{Cluster}
 use Rattle.cluster_types.specs.declared.journal.Event.{Event}
 use Rattle.cluster_types.specs.Cells.{is_reset}
-use Rattle.cluster_types.specs.CellStates.{wants_block}
-use Rattle.cluster_types.specs.Failures.{is_outcome, is_failure, is_start, has_code, hard_codes, fatal_codes, wants_stop, ended_at}
+use Rattle.cluster_types.specs.CellStates.{asks_for_block}
+use Rattle.cluster_types.specs.Failures.{is_outcome, is_failure, is_start, has_code, hard_codes, fatal_codes, asks_for_stop, ended_at}
 use Rattle.cluster_types.specs.Fields.{failure_timeout, threshold}
-use Rattle.cluster_types.specs.NodeStates.{wants_fence}
+use Rattle.cluster_types.specs.NodeStates.{asks_for_fence}
 use Rattle.state_unpack.specs.declared.tally.Tally.{Tally}
 
 -- that of no failure
@@ -21,9 +21,9 @@ with_failure c tally e = record {
   start = tally.start || is_start e;
   hard = tally.hard || has_code hard_codes e;
   fatal = tally.fatal || has_code fatal_codes e;
-  stop = tally.stop || wants_stop c e;
-  fence = tally.fence || wants_fence c e;
-  block = wants_block c e;
+  stop = tally.stop || asks_for_stop c e;
+  fence = tally.fence || asks_for_fence c e;
+  block = asks_for_block c e;
   last = Some (ended_at e);
 }
 

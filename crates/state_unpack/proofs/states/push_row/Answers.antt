@@ -4,7 +4,7 @@ use Rattle.lemmas.proofs.Ranges.{map-more}
 use Rattle.cluster_types.specs.NodeStates.{is_online_in}
 use Rattle.state_unpack.specs.Inner.CellsKept.{cell_from}
 use Rattle.state_unpack.specs.Inner.Facts.{no_facts}
-use Rattle.state_unpack.specs.Kept.{cell_in}
+use Rattle.state_unpack.specs.KeptCells.{cell_in}
 use Rattle.state_unpack.proofs.states.push_row.Goals as goal
 
 pub loop-place-preserved : goal.loop-place-preserved
