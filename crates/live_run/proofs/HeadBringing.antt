@@ -77,7 +77,7 @@ module _ (text : List ℕ) (old new : Reading) (before : Option (List ℕ)) (lef
       ∙ ap (head_found old.longest text old.room old.next) (handed_cut old new before (Some left) a left a.at_end).lines
       ∙ line_then (raw_lines (new.held ++ left))
 
--- a line behind which the verdict is that of the others is one behind which the head goes on
+-- a line behind which there is found what the others have is one behind which the head goes on
 only_on : (says : LineOfHead) (with_it : HeadFound) → ((others : HeadFound) → others ≡ found_by says with_it others) → says ≡ goes_on_behind
 only_on goes_on_behind with_it h = refl
 only_on ends_head with_it h =

@@ -1,4 +1,4 @@
--- What the verdict on a head says of its lines.
+-- What is found as a head says of its lines.
 use Rattle.std.proofs.Common.{arith, ◌≡◌, ◌<◌, ◌≤◌, ◌+◌, ◌-◌, ℕ, Bool, true, false, if◌then◌else◌, List, [], ◌∷◌, ◌++◌, length, length-append, codes, Ok, append_assoc, append-nil, refl, sym, ap, subst, ◌∙◌}
 use Rattle.std.specs.Prelude.{Some, min, nat_lt, nat_le}
 use Rattle.std.specs.List.{concat, list_any}
@@ -54,7 +54,7 @@ pub record LackWords (n : ℕ) (groups : List (List (List ℕ))) (line : ℕ) (w
   pub is_lack : why ≡ Words lack
   pub first : first_lex_fault (faults_from n groups) ≡ Some (At line lack)
 
--- what a verdict says: a head; the first fault of the lines; or that they don't lie within the limit
+-- what is found says: a head; the first fault of the lines; or that they don't lie within the limit
 abbrev pub SaysHead : List ℕ → ℕ → ℕ → List (List (List ℕ)) → heads.HeadFound → Type 0
 SaysHead before room n groups (heads.taken text next left) = HasHead before room n groups text next left
 SaysHead before room n groups (heads.refused line why) = LackWords n groups line why
@@ -101,7 +101,7 @@ pub fault_behind : (found more : List (Fault LexCause)) (line : ℕ) (why : LexC
 fault_behind found more line why none first = rw none first
 
 module _ (before : List ℕ) (room n : ℕ) (group : List (List ℕ)) (groups : List (List (List ℕ))) where
-  -- the verdict on the lines behind the first
+  -- what is found in the lines behind the first
   abbrev Behind : heads.HeadFound → Type 0
   Behind = SaysHead (before ++ concat group) (room - length (concat group)) (n + length group) groups
 

@@ -54,7 +54,7 @@ line_by_size _ n raw = passes_limit
 abbrev pub line_of_head : ℕ → ℕ → ℕ → List (List ℕ) → LineOfHead
 line_of_head room longest n lines = line_by_size (line_answer room longest lines) n (concat lines)
 
--- the verdict, by what a line says: the head that ends with the line, and the verdict of what is behind it
+-- what is found, by what a line says: the head that ends with the line, or what is found behind the line
 abbrev pub found_by : LineOfHead → HeadFound → HeadFound → HeadFound
 found_by ends_head with_it behind = with_it
 found_by goes_on_behind with_it behind = behind
