@@ -15,7 +15,7 @@ use Rattle.decision_account.specs.Accounts.{account_lines, counted, decision_lin
 use Rattle.decision_account.specs.Parts.{ScorePart, base_parts, preference_parts, told_parts, without_zeros}
 use Rattle.decision_account.specs.Verdicts.{verdict_on}
 use Rattle.trace_text.proofs.MoreLines.{lines_of_lines}
-use Rattle.account_text.specs.Inner.Told.{parts_text}
+use Rattle.account_text.specs.Inner.PartsByStates.{parts_text}
 
 counted_text : (c : Cluster) (r n : ℕ) (parts : List ScorePart) → flat_map (why_line c) (map (counted r n) parts) ≡ flat_map (part_text c (leaf_on c r n)) parts
 counted_text c r n [] = refl

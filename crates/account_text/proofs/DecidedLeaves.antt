@@ -14,7 +14,7 @@ use Rattle.cluster_types.specs.Decisions.{Decides, all_made, leaf_of, one_more}
 use Rattle.cluster_types.specs.Pins.{pinned_targets}
 use Rattle.cluster_types.specs.Plans.{IsPlaced, with_totals}
 use Rattle.cluster_types.specs.Tables.{Targets}
-use Rattle.cluster_types.specs.Unpacked.{states_of}
+use Rattle.cluster_types.specs.UnpackedStates.{states_of}
 use Rattle.plan_laws.proofs.MadeOnes.{known}
 use Rattle.plan_laws.proofs.MoreDecisions.{decided_by}
 use Rattle.plan_laws.proofs.Ready.{ready_is_one}

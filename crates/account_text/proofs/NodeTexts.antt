@@ -12,17 +12,17 @@ use Rattle.cluster_types.specs.Decisions.{leaf_of}
 use Rattle.cluster_types.specs.Rights.{rights_of}
 use Rattle.cluster_types.specs.Tables.{Targets, load_of, targets_of}
 use Rattle.cluster_types.specs.Texts.{leaf_on, score_line}
-use Rattle.cluster_types.specs.Unpacked.{states_of}
+use Rattle.cluster_types.specs.UnpackedStates.{states_of}
 use Rattle.decision_account.specs.Accounts.{node_lines, verdict_text, why_text}
 use Rattle.decision_account.specs.Parts.{base_parts, preference_parts}
 use Rattle.decision_account.specs.Verdicts.{last_chosen, verdict_on}
 use Rattle.placement.specs.Reads.{may_stay_in}
 use Rattle.placement.specs.Steps.{Chooses, Tell}
-use Rattle.account_text.specs.declared.asked.Asked.{Asked}
-use Rattle.account_text.specs.Inner.Asked.{verdict_asked}
-use Rattle.account_text.specs.Inner.Judged.{last_of, verdict_in}
+use Rattle.account_text.specs.declared.decision_asked.Asked.{Asked}
+use Rattle.account_text.specs.Inner.AskedVerdicts.{verdict_asked}
+use Rattle.account_text.specs.Inner.VerdictsByStates.{last_of, verdict_in}
 use Rattle.account_text.specs.Inner.Sides.{preference_part}
-use Rattle.account_text.specs.Inner.Told.{base_parts_by, parts_text}
+use Rattle.account_text.specs.Inner.PartsByStates.{base_parts_by, parts_text}
 use Rattle.account_text.proofs.AccountLines.{node_text}
 use Rattle.account_text.proofs.PartsOfStates.{base_parts_are}
 use Rattle.account_text.proofs.SideTexts.{preferences_text}

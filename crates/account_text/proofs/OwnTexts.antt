@@ -13,7 +13,7 @@ use Rattle.placement.specs.Locations.{rule_holds_by}
 use Rattle.account_text.specs.declared.leaf_sources.LeafSources.{LeafSources}
 use Rattle.account_text.specs.declared.leaf_sources.Ruled.{Ruled}
 use Rattle.account_text.specs.Inner.Sources.{AreLocated, AreRuled, HoldsAt, IsSourceOf}
-use Rattle.account_text.specs.Inner.Told.{located_part, location_parts_by, part_where, parts_text, ruled_part}
+use Rattle.account_text.specs.Inner.PartsByStates.{located_part, location_parts_by, part_where, parts_text, ruled_part}
 use Rattle.account_text.proofs.ToldTexts.{lent_map, picked, two_more}
 
 three : (a b d : Bool) → (a && (b && d)) ≡ (a && b && d)

@@ -16,14 +16,14 @@ use Rattle.cluster_types.specs.Decisions.{leaf_of}
 use Rattle.cluster_types.specs.Failures.{is_banned}
 use Rattle.cluster_types.specs.Journals.{moment_of}
 use Rattle.cluster_types.specs.Terms.{ban_scores, is_active, is_started, opt_in_scores, stickiness_scores, with_lenders}
-use Rattle.cluster_types.specs.Unpacked.{states_of}
+use Rattle.cluster_types.specs.UnpackedStates.{states_of}
 use Rattle.cluster_types.proofs.StatesKept.{cell_kept}
 use Rattle.decision_account.specs.Parts.{Origin, ScorePart, base_parts, from_ban, from_opt_in, from_stickiness, lender_of, location_parts, own_parts, part_of}
 use Rattle.placement.specs.OwnRows.{is_active_by, is_banned_by, stickiness_of}
 use Rattle.placement.specs.Locations.{is_unnamed}
 use Rattle.placement.proofs.JoinedOfStates.{all-joins}
 use Rattle.placement.proofs.OwnOfStates.{active-is}
-use Rattle.account_text.specs.Inner.Told.{base_parts_by, own_part_where, own_parts_by}
+use Rattle.account_text.specs.Inner.PartsByStates.{base_parts_by, own_part_where, own_parts_by}
 
 as_map : (counts : Bool) (lender : Option ℕ) (origin : Origin) (score : ℤ)
     → own_part_where counts lender origin score ≡ map (part_of lender origin) (if counts then score ∷ [] else [])

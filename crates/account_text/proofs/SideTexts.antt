@@ -14,7 +14,7 @@ use Rattle.decision_account.specs.Verdicts.{joined_separation, joins_apart, miss
 use Rattle.placement.specs.Tests.{counts, has_primary, keeps_apart}
 use Rattle.account_text.specs.Inner.Sides.{AreColocationsOf, first_joined, first_missing, is_side, preference_part}
 use Rattle.account_text.specs.Inner.Sources.{lent_values}
-use Rattle.account_text.specs.Inner.Told.{parts_text}
+use Rattle.account_text.specs.Inner.PartsByStates.{parts_text}
 use Rattle.account_text.proofs.ToldTexts.{lent_map, picked}
 
 counts_of_side : (x y f h : Bool) → ((x || y) && (f && x && h)) ≡ (f && x && h)

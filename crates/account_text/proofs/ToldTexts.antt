@@ -9,7 +9,7 @@ use Rattle.cluster_types.specs.declared.cluster.Cluster.{Cluster}
 use Rattle.decision_account.specs.Accounts.{part_text}
 use Rattle.decision_account.specs.Parts.{ScorePart, is_told, without_zeros}
 use Rattle.account_text.specs.Inner.Sources.{lent_values}
-use Rattle.account_text.specs.Inner.Told.{part_where, parts_text}
+use Rattle.account_text.specs.Inner.PartsByStates.{part_where, parts_text}
 
 -- what is lent, one by one
 pub lent_map : {X Y : Type 0} (f : X → List Y) (all : List (Bor X)) → flat_map (λ x. f x.now) all ≡ flat_map f (lent_values all)

@@ -22,15 +22,16 @@ use Rattle.cluster_types.specs.Decisions.{leaf_of}
 use Rattle.cluster_types.specs.NodeStates.{is_usable}
 use Rattle.cluster_types.specs.Rights.{rights_of}
 use Rattle.cluster_types.specs.Tables.{Targets, load_of}
-use Rattle.cluster_types.specs.Unpacked.{states_of}
+use Rattle.cluster_types.specs.UnpackedStates.{states_of}
 use Rattle.decision_account.specs.Verdicts as verdict
 use Rattle.decision_account.specs.Verdicts.{Verdict, is_last_chosen, joined_separation, last_chosen, missed_colocation, outdone, passed_by, refusal, verdict_on}
 use Rattle.decision_account.proofs.TrueVerdicts.{found}
-use Rattle.placement.specs.Reads.{is_permitted_in, may_stay_in}
-use Rattle.placement.specs.Usable.{is_usable_by}
+use Rattle.placement.specs.Reads.{may_stay_in}
+use Rattle.placement.specs.Inner.Reads.{is_permitted_in}
+use Rattle.placement.specs.UsableNodes.{is_usable_by}
 use Rattle.placement.proofs.OwnOfStates.{from-zero, usable-is}
 use Rattle.placement.proofs.ReadOfStates.{open-is}
-use Rattle.account_text.specs.Inner.Judged.{goes_ahead, is_last_of, last_of, load_listed, passed_in, refusal_by_table, refusal_in, total_listed, verdict_in}
+use Rattle.account_text.specs.Inner.VerdictsByStates.{goes_ahead, is_last_of, last_of, load_listed, passed_in, refusal_by_table, refusal_in, total_listed, verdict_in}
 use Rattle.account_text.specs.Inner.Sides.{AreColocationsOf}
 use Rattle.account_text.proofs.SideTexts.{joined_is, missing_is}
 

@@ -19,7 +19,7 @@ use Rattle.decision_account.specs.Accounts.{account_lines, decision_lines, held_
 use Rattle.decision_account.specs.Holders.{held_decision}
 use Rattle.plan_laws.proofs.MoreDecisions.{table_more}
 use Rattle.trace_text.proofs.MoreLines.{lines_of_lines}
-use Rattle.account_text.specs.Inner.Accounted.{AreAccounted, decisions_made}
+use Rattle.account_text.specs.Inner.AccountSoFar.{AreAccounted, decisions_made}
 use Rattle.account_text.specs.Inner.HeldTexts.{leaf_text}
 use Rattle.account_text.proofs.AccountLines.{account_more}
 

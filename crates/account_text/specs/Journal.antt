@@ -1,4 +1,4 @@
--- What states, totals and a placement have in common: one journal with its promotion scores tells them.
+-- What states, totals and a placement have in common.
 use Rattle.std.specs.Prelude.{◌≡◌, List}
 use Rattle.cluster_types.specs.declared.cluster.Cluster.{Cluster}
 use Rattle.cluster_types.specs.declared.journal.Event.{Event}
@@ -6,18 +6,11 @@ use Rattle.cluster_types.specs.declared.journal.Promotion.{Promotion}
 use Rattle.cluster_types.specs.declared.placement.Placed.{Placed}
 use Rattle.cluster_types.specs.declared.states.States.{States}
 use Rattle.cluster_types.specs.Plans.{IsPlaced}
-use Rattle.cluster_types.specs.Unpacked.{states_of}
+use Rattle.cluster_types.specs.UnpackedStates.{states_of}
 use Rattle.placement.specs.declared.totals.table.ScoreTable.{ScoreTable}
 use Rattle.placement.specs.Scores.{scores_of}
-use Rattle.placement.specs.Steps.{Tell}
 
--- the states and the totals
-pub record HaveJournal (c : Cluster) (states : States) (scores : ScoreTable) : Type 0 where
-  pub events : List Event
-  pub promotions : List Promotion
-  pub tell : Tell c events promotions states scores
-
--- these and the placement
+-- one journal with its promotion scores tells the states, the totals and the placement
 pub record HavePlacement (c : Cluster) (states : States) (scores : ScoreTable) (placed : Placed) : Type 0 where
   pub events : List Event
   pub promotions : List Promotion

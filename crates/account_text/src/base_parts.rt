@@ -7,9 +7,9 @@ ghost use Rattle.cluster_types.specs.Valid.{IsValid};
 ghost use Rattle.placement.specs.Inner.LendingRows.{all_joined};
 ghost use Rattle.placement.specs.Promotions.{AreSaid};
 ghost use Rattle.decision_account.specs.Parts as parts;
-ghost use Rattle.account_text.specs.Inner.Told as spec;
+ghost use Rattle.account_text.specs.Inner.PartsByStates as spec;
 
-use crate::lent::{OriginRef, PartRef};
+use crate::lent_parts::{OriginRef, PartRef};
 use crate::own_parts::{push_locations, push_own, push_part_if};
 use crate::sources::Sources;
 use cluster_types::{LeafId, NodeId, Role};

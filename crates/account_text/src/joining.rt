@@ -4,7 +4,7 @@ ghost use Rattle.std.specs.Prelude.{◌≡◌, ◌<◌, length, IfOk};
 ghost use Rattle.cluster_types.specs.Valid.{IsValid};
 ghost use Rattle.placement.specs.Inner.LendingRows as lending;
 ghost use Rattle.placement.specs.Ties.{AreTies, tied_within};
-ghost use Rattle.account_text.specs.Inner.Joining as spec;
+ghost use Rattle.account_text.specs.Inner.JoinedLeaves as spec;
 
 use cluster_types::LeafId;
 use edges::Edge;

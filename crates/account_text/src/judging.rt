@@ -3,12 +3,12 @@
 ghost use Rattle.std.specs.Prelude.{◌≡◌, ◌<◌, ◌&&◌, ◌||◌, length, option_map};
 ghost use Rattle.cluster_types.specs.Tables.{targets_of};
 ghost use Rattle.placement.specs.Reads.{is_kept_in};
-ghost use Rattle.account_text.specs.Inner.Asked as spec;
-ghost use Rattle.account_text.specs.Inner.Judged as judged;
-ghost use Rattle.account_text.specs.Inner.Lent as lent;
+ghost use Rattle.account_text.specs.Inner.AskedVerdicts as spec;
+ghost use Rattle.account_text.specs.Inner.VerdictsByStates as judged;
+ghost use Rattle.account_text.specs.Inner.LentParts as lent;
 
-use crate::asked::Asked;
-use crate::lent::VerdictRef;
+use crate::decision_asked::Asked;
+use crate::lent_parts::VerdictRef;
 use crate::sides::{first_joined, first_missing};
 use cluster_types::NodeId;
 use placement::{is_kept, is_placed};

@@ -2,7 +2,7 @@
 
 ghost use Rattle.std.specs.Prelude.{◌≡◌, ◌<◌, ◌≤◌, ℕ, true, length, find};
 ghost use Rattle.std.specs.List.{list_all, range_with_len};
-ghost use Rattle.account_text.specs.Inner.Judged as spec;
+ghost use Rattle.account_text.specs.Inner.VerdictsByStates as spec;
 
 use cluster_types::NodeId;
 use score::{NodeSet, Score};

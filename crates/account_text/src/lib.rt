@@ -2,7 +2,7 @@
 #![tactic(auto)]
 
 // The printed lines of parts and verdicts.
-mod lent;
+mod lent_parts;
 mod part_lines;
 mod verdict_lines;
 
@@ -17,7 +17,7 @@ mod own_parts;
 mod sides;
 
 // Why a node is chosen or not.
-mod asked;
+mod decision_asked;
 mod judging;
 mod last_chosen;
 
@@ -26,6 +26,6 @@ mod held_cells;
 
 // All of it, by what is read once.
 mod account;
-mod read;
+mod account_inputs;
 
 pub use account::why_text;

@@ -2,13 +2,13 @@
 
 ghost use Rattle.std.specs.Prelude.{◌≡◌, ◌++◌, ◌<◌, ℕ, Option, length, OnOk};
 ghost use Rattle.std.specs.List.{flat_map};
-ghost use Rattle.placement.specs.Locations.{is_role};
-ghost use Rattle.account_text.specs.Inner.Lent as lent;
+ghost use Rattle.placement.specs.Inner.Locations.{is_role};
+ghost use Rattle.account_text.specs.Inner.LentParts as lent;
 ghost use Rattle.account_text.specs.Inner.Sources.{IsSourceOf};
-ghost use Rattle.account_text.specs.Inner.Told as spec;
+ghost use Rattle.account_text.specs.Inner.PartsByStates as spec;
 
 use crate::leaf_sources::{LeafSources, Ruled};
-use crate::lent::{OriginRef, PartRef};
+use crate::lent_parts::{OriginRef, PartRef};
 use crate::part_lines::push_part;
 use crate::sources::Sources;
 use cluster_types::{Cluster, LeafId, Location, NodeId, Role};

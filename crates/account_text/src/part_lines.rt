@@ -3,9 +3,9 @@
 ghost use Rattle.std.specs.Prelude.{◌≡◌, ◌++◌, OnOk};
 ghost use Rattle.score.specs.ScoreText.{score_text};
 ghost use Rattle.decision_account.specs.Accounts as accounts;
-ghost use Rattle.account_text.specs.Inner.Lent as spec;
+ghost use Rattle.account_text.specs.Inner.LentParts as spec;
 
-use crate::lent::{OriginRef, PartRef};
+use crate::lent_parts::{OriginRef, PartRef};
 use cluster_types::{Cluster, LeafId};
 use faults::NoMemory;
 use listed::Name;

@@ -4,9 +4,9 @@ ghost use Rattle.std.specs.Prelude.{◌≡◌, ◌++◌, OnOk, IfOk};
 ghost use Rattle.std.specs.List.{flat_map};
 ghost use Rattle.cluster_types.specs.Tables.{targets_of};
 ghost use Rattle.account_text.specs.Inner.Sides as spec;
-ghost use Rattle.account_text.specs.Inner.Told as told;
+ghost use Rattle.account_text.specs.Inner.PartsByStates as told;
 
-use crate::lent::{OriginRef, PartRef};
+use crate::lent_parts::{OriginRef, PartRef};
 use crate::own_parts::push_part_if;
 use cluster_types::{Cluster, Colocation, Decision, NodeId, Table};
 use faults::NoMemory;

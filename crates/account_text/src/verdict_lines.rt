@@ -2,9 +2,9 @@
 
 ghost use Rattle.std.specs.Prelude.{◌≡◌, ◌++◌, codes, OnOk};
 ghost use Rattle.decision_account.specs.Accounts as accounts;
-ghost use Rattle.account_text.specs.Inner.Lent as spec;
+ghost use Rattle.account_text.specs.Inner.LentParts as spec;
 
-use crate::lent::VerdictRef;
+use crate::lent_parts::VerdictRef;
 use cluster_types::Cluster;
 use faults::NoMemory;
 use trace_text::node_name;

@@ -1,6 +1,6 @@
 //! What `cluster_model` resolves, and which statement is at fault.
 
-use crate::resolved::{cluster, crm, shown};
+use crate::resolved_texts::{cluster, crm, shown};
 use cluster_model::{ModelCause, ModelFault, expand, resolve};
 use cluster_types::{Cluster, Colocation, Location, Node, Order, Role, RuleLocation};
 use std::alloc::{AllocError, Global};

@@ -3,7 +3,7 @@
 ghost use Rattle.std.specs.Prelude.{◌≡◌, ◌<◌, ◌^◌};
 ghost use Rattle.cluster_types.specs.Journals.{moment_of};
 
-use crate::resolved::cluster;
+use crate::resolved_texts::cluster;
 use cluster_types::{Answer, Journal};
 use crm_lex::{Line, WordBuf, lex_one, logical_lines};
 use input_reading::{

@@ -1,6 +1,6 @@
 //! What `expand` makes of primitives, groups and clones, and which statement is at fault.
 
-use crate::resolved::{crm, shown};
+use crate::resolved_texts::{crm, shown};
 use cluster_model::{ExpandCause, ExpandFault, Leaves, expand};
 use cluster_types::Leaf;
 use std::alloc::{AllocError, Global};

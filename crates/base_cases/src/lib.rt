@@ -41,6 +41,6 @@ mod leaves;
 #[cfg(test)]
 mod loops_of_rules;
 #[cfg(test)]
-mod resolved;
+mod resolved_texts;
 #[cfg(test)]
 mod tables_and_graphs;

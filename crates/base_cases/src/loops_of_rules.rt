@@ -1,6 +1,6 @@
 //! Which rule closes a loop.
 
-use crate::resolved::{cluster, name};
+use crate::resolved_texts::{cluster, name};
 use cluster_types::{Cluster, Colocation, LeafId, Op, Order, OrderKind, Role};
 use listed::Listed;
 use loops::{colocation_loop, joins_leaves, order_loop, orders_steps};

@@ -2,7 +2,7 @@
 
 ghost use Rattle.std.specs.Prelude.{◌≡◌, ℕ, ◌+◌, ◌<◌, ◌≤◌, ◌≤ℤ◌, neg_ℤ, pos, true, length};
 ghost use Rattle.score.specs.NodeSet.{has};
-ghost use Rattle.score.specs.Small.{IsSmallRow};
+ghost use Rattle.score.specs.Inner.SmallRows.{IsSmallRow};
 
 use score::{
     NodeSet, Row, Score, add_row, add_row_plain, candidates, candidates_plain, greatest,

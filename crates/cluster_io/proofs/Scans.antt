@@ -7,7 +7,7 @@ use Rattle.std.proofs.lemmas.List.{append-nil, length-append, length-take-le, le
 use Rattle.crm_lex.specs.RawLines.{physical_lines, joined, goes_on, content, ends_in, ends_in_backslash, begins_comment}
 use Rattle.cluster_io.specs.NextLine.{has_feed, first_line_of, first_line, holds_line, reader_answer, IsUndecided}
 use Rattle.cluster_io.specs.Scanning.{Joins, physical_content_length, Looked}
-use Rattle.cluster_io.specs.Inner.Found.{before_feed, FeedAt, FeedIn, IsLine, IsOpen, IsLast}
+use Rattle.cluster_io.specs.Inner.FoundLines.{before_feed, FeedAt, FeedIn, IsLine, IsOpen, IsLast}
 use Rattle.cluster_io.specs.declared.line_scan.Scan.{Scan}
 use Rattle.cluster_io.specs.declared.line_scan.Bounds.{Bounds}
 use Rattle.cluster_io.specs.declared.line_step.LineStep.TheVariants.{Line, TooLong, TooLarge}

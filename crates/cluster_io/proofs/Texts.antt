@@ -4,7 +4,7 @@ use Rattle.std.proofs.lemmas.Bool.{cond-true, cond-false, cond_both, or_parts, a
 use Rattle.std.proofs.lemmas.List.{length-take-le}
 use Rattle.crm_lex.specs.RawLines.{content, ends_in, is_line_end}
 use Rattle.cluster_io.specs.NextLine.{has_feed}
-use Rattle.cluster_io.specs.Inner.Found.{before_feed}
+use Rattle.cluster_io.specs.Inner.FoundLines.{before_feed}
 
 -- a text that ends in a byte has one
 pub ends_in_some : (byte : ℕ) (text : List ℕ) → ends_in byte text ≡ true → 0 < length text

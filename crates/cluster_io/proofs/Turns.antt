@@ -6,8 +6,8 @@ use Rattle.crm_lex.specs.RawLines.{physical_lines}
 use Rattle.cluster_io.specs.Streams.{TakesBytes}
 use Rattle.cluster_io.specs.NextLine.{reader_answer, first_line, holds_line}
 use Rattle.cluster_io.specs.Readings.{Reading, HandsOut, Leaves, nothing_came, more_came, ReaderAnswered, TellsAnswer}
-use Rattle.cluster_io.specs.Inner.Found.{Finds, FindsLast}
-use Rattle.cluster_io.specs.Inner.Turned.{GivesFound, Settles, ReadsOn, Sofar}
+use Rattle.cluster_io.specs.Inner.FoundLines.{Finds, FindsLast}
+use Rattle.cluster_io.specs.Inner.ReaderTurns.{GivesFound, Settles, ReadsOn, Sofar}
 use Rattle.cluster_io.specs.declared.line_scan.Scan.{Scan}
 use Rattle.cluster_io.specs.declared.line_scan.Bounds.{Bounds}
 use Rattle.cluster_io.specs.declared.line_scan.Found.{Found}

@@ -1,4 +1,4 @@
 -- What no public clause rests on: what the code of this crate keeps and counts on the way, for its proofs alone.
 pub mod Reads
-pub mod Found
-pub mod Turned
+pub mod FoundLines
+pub mod ReaderTurns

@@ -2,7 +2,7 @@ ghost use Rattle.std.specs.Prelude.{◌≡◌, ℕ, ◌+◌, ◌*◌, ◌^◌, �
 ghost use Rattle.cluster_io.specs.Streams.{Bears};
 ghost use Rattle.cluster_io.specs.NextLine.{holds_line};
 ghost use Rattle.cluster_io.specs.HeldLines.{Stops};
-ghost use Rattle.cluster_io.specs.Inner.Turned.{MayGiveFound, GivesFound, Turned};
+ghost use Rattle.cluster_io.specs.Inner.ReaderTurns.{MayGiveFound, GivesFound, Turned};
 
 use crate::line_scan::{Bounds, Found, Scan, last_line, look};
 use crate::window::Window;

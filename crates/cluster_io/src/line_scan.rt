@@ -2,7 +2,7 @@ ghost use Rattle.std.specs.Prelude.{◌≡◌, ℕ, ◌+◌, ◌≤◌, ◌<◌,
 ghost use Rattle.crm_lex.specs.RawLines.{begins_comment, ends_in_backslash};
 ghost use Rattle.cluster_io.specs.NextLine.{has_feed};
 ghost use Rattle.cluster_io.specs.Scanning.{Looked};
-ghost use Rattle.cluster_io.specs.Inner.Found.{Finds, FeedAt, FeedIn, FindsLast, before_feed};
+ghost use Rattle.cluster_io.specs.Inner.FoundLines.{Finds, FeedAt, FeedIn, FindsLast, before_feed};
 
 use crm_lex::{begins_comment, ends_in};
 

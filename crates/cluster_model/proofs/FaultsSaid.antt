@@ -11,7 +11,7 @@ use Rattle.crm_parse.specs.declared.form.Form.TheVariants as form
 use Rattle.crm_parse.specs.declared.statement.Statement.{Statement}
 use Rattle.cluster_model.specs.declared.expansion.kinds.Kind.{Kind}
 use Rattle.cluster_model.specs.declared.expansion.kinds.Kind.TheVariants as kind
-use Rattle.cluster_model.specs.declared.expansion.seen.Seen.{Seen}
+use Rattle.cluster_model.specs.declared.expansion.seen_names.Seen.{Seen}
 use Rattle.cluster_model.specs.Inner.Faults.{expand_cause_of, fault_of, first_expand_fault, is_group, kinds_of, may_contain, nothing_seen, promotes_group, resource_kinds_in, seen_after}
 use Rattle.cluster_model.specs.Faults.{ids_in, parts_in, is_a_group, is_resource, expand_cause, may_have_part, promotes_members, resource_named}
 use Rattle.cluster_model.specs.FirstFaults.{first_fault}

@@ -7,7 +7,7 @@ use Rattle.std.proofs.lemmas.Bool.{ltb-true, or_parts}
 use Rattle.lemmas.proofs.Members.{head_or_rest, in_none}
 use Rattle.cluster_model.specs.declared.resolution.directory.Directory.{Directory}
 use Rattle.cluster_model.specs.declared.expansion.spans.Ends.{Ends}
-use Rattle.cluster_model.specs.Successive.{pairs_after, successive}
+use Rattle.cluster_model.specs.SuccessivePairs.{pairs_after, successive}
 use Rattle.cluster_model.specs.Inner.Directories.{first_named, if_there, is_unknown, last_named}
 use Rattle.cluster_model.specs.Inner.Tables.{lookup}
 

@@ -11,7 +11,7 @@ use Rattle.crm_parse.specs.declared.statement.Statement.{Statement}
 use Rattle.crm_lex.specs.Names.{is_name}
 use Rattle.crm_parse.specs.Monitors.{AreFew, recurring}
 use Rattle.crm_parse.specs.Operations.{interval_of, recurs}
-use Rattle.crm_parse.specs.ReadForms.{IsRead}
+use Rattle.crm_parse.specs.Inner.ReadForms.{IsRead}
 use Rattle.cluster_types.specs.declared.leaf.Monitor.{Monitor as MonitorOf}
 use Rattle.cluster_types.specs.Valid.{IsValidLeaf}
 use Rattle.cluster_model.specs.Inner.Clones.{uncloned}

@@ -21,7 +21,7 @@ use Rattle.cluster_model.specs.declared.resolution.directory.Directory.{Director
 use Rattle.cluster_model.specs.declared.resolution.fault.ModelCause.{ModelCause}
 use Rattle.cluster_model.specs.declared.resolution.fault.ModelCause.TheVariants.{UnknownName, NotPromotable, UnsupportedOrder, TooManyNodes, TooManyLeaves, TooManyRules}
 use Rattle.faults.specs.declared.fault.Fault.{Fault}
-use Rattle.cluster_model.specs.Successive.{pairs_after, successive}
+use Rattle.cluster_model.specs.SuccessivePairs.{pairs_after, successive}
 use Rattle.cluster_model.specs.Inner.Checks.{cause_of, excess_of, has_unknown, has_unpromotable}
 use Rattle.cluster_model.specs.Checks.{has_unsupported_pair}
 use Rattle.cluster_model.specs.Inner.Colocations.{colocations_in, colocations_of}

@@ -16,8 +16,8 @@ use Rattle.cluster_model.specs.declared.expansion.leaves.Span.{Span}
 use Rattle.cluster_model.specs.declared.resolution.directory.Directory.{Directory}
 use Rattle.cluster_model.specs.declared.expansion.spans.Ends.{Ends}
 use Rattle.cluster_model.specs.declared.resolution.directory.Traits.{Traits}
-use Rattle.cluster_model.specs.Inner.Directories.{are_joined, are_there, directory_of, ends_in_directory, first_named, grouped_from, groups_of, if_there, is_local, is_one_group, is_unknown, is_unknown_node, last_named, may_promote, members_in, node_named, numbered_from, resources_of, span_ends, traits_of}
-use Rattle.cluster_model.specs.Named.{first_leaf, has_leaves, in_one_group, is_missing, is_on_nodes, joins_on_nodes, last_leaf, node_number, place_of_node, promotes, span_named}
+use Rattle.cluster_model.specs.Inner.Directories.{are_joined, are_there, directory_of, ends_in_directory, first_named, grouped_from, groups_of, if_there, is_local_by, is_one_group, is_unknown, is_unknown_node, last_named, may_promote, members_in, node_named, numbered_from, resources_of, span_ends, traits_of}
+use Rattle.cluster_model.specs.NamesInRules.{first_leaf, has_leaves, in_one_group, is_missing, is_local, is_local_between, last_leaf, node_number, place_of_node, promotes, span_named}
 use Rattle.cluster_model.specs.Resources.{Group, all_groups, its_group}
 use Rattle.cluster_model.specs.Settings.{node_names_in}
 use Rattle.cluster_model.specs.Inner.Tables.{lookup}
@@ -169,13 +169,13 @@ module _ (leaves : Leaves) (statements : List Statement) where
     on None = refl
     on (Some leaf) = refl
 
-  pub local_is : (first later : ℕ) → is_local directory first later ≡ is_on_nodes leaves statements first later
+  pub local_is : (first later : ℕ) → is_local_by directory first later ≡ is_local leaves statements first later
   local_is first later =
       let one = traits_at first in
       let other = traits_at later in
       rw (one, other) (on (slice_get leaves.leaves first) (slice_get leaves.leaves later)) where
         on : (one other : Option Leaf) → are_joined (option_map (traits_of (groups_of statements)) one) (option_map (traits_of (groups_of statements)) other)
-            ≡ joins_on_nodes statements one other
+            ≡ is_local_between statements one other
         on None other = refl
         on (Some one) None = refl
         on (Some one) (Some other) =

@@ -12,7 +12,7 @@ use Rattle.cluster_model.specs.declared.expansion.expand_fault.ExpandCause.{Expa
 use Rattle.faults.specs.declared.fault.Fault.{Fault}
 use Rattle.faults.specs.Reading.{fault_at}
 use Rattle.cluster_model.specs.declared.expansion.kinds.Kind.{Kind}
-use Rattle.cluster_model.specs.declared.expansion.seen.Seen.{Seen}
+use Rattle.cluster_model.specs.declared.expansion.seen_names.Seen.{Seen}
 use Rattle.cluster_model.specs.Inner.Faults.{expand_cause_of, fault_of, first_expand_fault, kinds_of, nothing_seen, seen_after}
 use Rattle.cluster_model.specs.Faults.{ids_in}
 use Rattle.cluster_model.specs.Settings.{node_names_in}

@@ -5,15 +5,15 @@ use Rattle.crm_lex.specs.Names.{is_name}
 use Rattle.crm_parse.specs.declared.form.Form.{Form}
 use Rattle.crm_parse.specs.declared.form.Form.TheVariants as form
 use Rattle.crm_parse.specs.declared.statement.Statement.{Statement}
-use Rattle.crm_parse.specs.Named.{HasNames}
-use Rattle.crm_parse.specs.ReadForms.{IsRead}
+use Rattle.crm_parse.specs.Inner.StatementNames.{HasNames}
+use Rattle.crm_parse.specs.Inner.ReadForms.{IsRead}
 use Rattle.cluster_types.specs.declared.node.Node.{Node}
 use Rattle.cluster_types.specs.declared.rules.Colocation.{Colocation}
 use Rattle.cluster_types.specs.declared.rules.Location.{Location}
 use Rattle.cluster_types.specs.declared.rules.Order.{Order}
 use Rattle.cluster_types.specs.declared.rules.RuleLocation.{RuleLocation}
 use Rattle.cluster_model.specs.declared.resolution.directory.Directory.{Directory}
-use Rattle.cluster_model.specs.Successive.{successive}
+use Rattle.cluster_model.specs.SuccessivePairs.{successive}
 use Rattle.cluster_model.specs.Inner.Colocations.{colocations_in, colocations_of, member_colocation}
 use Rattle.cluster_model.specs.Inner.Locations.{location_in, locations_of, rule_location_of, rule_locations_in, rule_locations_of}
 use Rattle.cluster_model.specs.Nodes.{node_in, nodes_by}

@@ -27,7 +27,7 @@ use Rattle.cluster_model.specs.declared.resolution.colocations.Bearer.{Bearer}
 use Rattle.cluster_model.specs.declared.resolution.directory.Directory.{Directory}
 use Rattle.cluster_model.specs.declared.resolution.directory.Traits.{Traits}
 use Rattle.cluster_model.specs.declared.resolution.orders.Point.{Point}
-use Rattle.cluster_model.specs.Successive.{successive}
+use Rattle.cluster_model.specs.SuccessivePairs.{successive}
 use Rattle.cluster_model.specs.Inner.Checks.{lacks_action, lacks_in_pair, lacks_role, side_lacks}
 use Rattle.cluster_model.specs.Checks.{turns_down}
 use Rattle.cluster_model.specs.Inner.Colocations.{colocation_of, colocations_in, dependent_at, member_colocation, primary_at}

@@ -21,7 +21,7 @@ use Rattle.cluster_model.specs.declared.expansion.leaves.Leaves.{Leaves}
 use Rattle.cluster_model.specs.declared.resolution.counts.Counts.{Counts}
 use Rattle.cluster_model.specs.declared.resolution.directory.Directory.{Directory}
 use Rattle.cluster_model.specs.declared.resolution.fault.ModelCause.{ModelCause}
-use Rattle.cluster_model.specs.Successive.{successive}
+use Rattle.cluster_model.specs.SuccessivePairs.{successive}
 use Rattle.cluster_model.specs.Inner.Checks.{cause_of, excess_of, has_unknown, has_unpromotable, lacks_action, lacks_in_pair, lacks_role}
 use Rattle.cluster_model.specs.Inner.Colocations.{colocation_of, colocations_in, dependent_at, primary_at}
 use Rattle.cluster_model.specs.Inner.Counting.{all_counted, counted_with, counts_of, leaf_count, node_count, nothing_counted}
@@ -30,7 +30,7 @@ use Rattle.cluster_model.specs.Inner.Directories.{last_named}
 use Rattle.cluster_model.specs.FirstFaults.{first_fault}
 use Rattle.cluster_model.specs.Inner.Locations.{location_in, rule_locations_in}
 use Rattle.cluster_model.specs.Locations.{role_of_word, role_written, its_locations, its_rule_locations}
-use Rattle.cluster_model.specs.Named.{first_leaf, last_leaf}
+use Rattle.cluster_model.specs.NamesInRules.{first_leaf, last_leaf}
 use Rattle.cluster_model.specs.Inner.Orders.{first_point, order_of, orders_in, then_point}
 use Rattle.cluster_model.specs.Orders.{kind_of_word, op_of, its_orders, leaf_begun, leaf_done, order_said}
 use Rattle.cluster_model.specs.Inner.Resolution.{cause_after, cluster_of, own_cause, resolution_by}

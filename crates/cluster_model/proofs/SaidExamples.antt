@@ -25,7 +25,7 @@ use Rattle.cluster_model.specs.Expansion.{leaf_fault, leaves_and_spans}
 use Rattle.cluster_model.specs.Faults as faults
 use Rattle.cluster_model.specs.Leaves.{leaf_said, leaves_said}
 use Rattle.cluster_model.specs.Locations.{its_locations}
-use Rattle.cluster_model.specs.Named.{in_one_group, node_number, place_of_node}
+use Rattle.cluster_model.specs.NamesInRules.{in_one_group, node_number, place_of_node}
 use Rattle.cluster_model.specs.Orders.{its_orders}
 use Rattle.cluster_model.specs.Resources.{Primitive}
 use Rattle.cluster_model.specs.Spans.{spans_said}

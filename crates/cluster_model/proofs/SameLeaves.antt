@@ -12,7 +12,7 @@ use Rattle.cluster_model.specs.declared.expansion.surroundings.Surroundings.{Sur
 use Rattle.cluster_model.specs.declared.expansion.clones.InClone.{InClone}
 use Rattle.cluster_model.specs.declared.expansion.groups.InGroup.{InGroup}
 use Rattle.cluster_model.specs.declared.expansion.meta.Meta.{Meta}
-use Rattle.cluster_model.specs.declared.expansion.seen.Seen.{Seen}
+use Rattle.cluster_model.specs.declared.expansion.seen_names.Seen.{Seen}
 use Rattle.cluster_model.specs.Inner.Clones.{cloned_by, cloned_in}
 use Rattle.cluster_model.specs.Expansion.{expansion_of}
 use Rattle.cluster_model.specs.Inner.Expansion.{leaves_with_spans}

@@ -10,7 +10,7 @@ use Rattle.crm_parse.specs.declared.form.Form.{Form}
 use Rattle.crm_parse.specs.declared.statement.Statement.{Statement}
 use Rattle.cluster_model.specs.declared.expansion.expand_fault.ExpandCause.{ExpandCause}
 use Rattle.cluster_model.specs.declared.expansion.kinds.Kind.{Kind}
-use Rattle.cluster_model.specs.declared.expansion.seen.Seen.{Seen}
+use Rattle.cluster_model.specs.declared.expansion.seen_names.Seen.{Seen}
 use Rattle.faults.specs.Reading.{fault_at}
 use Rattle.cluster_model.specs.Inner.Faults.{AreAlike, HaveTheSame, expand_cause_of, first_expand_fault, seen_after}
 use Rattle.cluster_model.specs.Faults.{has_twice, ids_in, parts_in}

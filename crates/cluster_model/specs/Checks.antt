@@ -13,21 +13,31 @@ use Rattle.cluster_types.specs.declared.leaf.Role.{Role}
 use Rattle.cluster_types.specs.declared.leaf.Role.TheVariants as role
 use Rattle.cluster_model.specs.declared.resolution.fault.ModelCause.{ModelCause}
 use Rattle.cluster_model.specs.declared.resolution.fault.ModelCause.TheVariants.{UnknownName, NotPromotable, UnsupportedOrder, TooManyNodes, TooManyLeaves, TooManyRules}
-use Rattle.cluster_model.specs.Successive.{successive}
+use Rattle.cluster_model.specs.SuccessivePairs.{successive}
 use Rattle.cluster_model.specs.Locations.{role_of_word, role_written}
 use Rattle.cluster_model.specs.Orders.{is_down, leaf_begun, leaf_done}
 use Rattle.cluster_model.specs.declared.expansion.leaves.Leaves.{Leaves}
 use Rattle.cluster_model.specs.Counting.{rule_count}
-use Rattle.cluster_model.specs.Named.{first_leaf, is_missing, last_leaf, place_of_node, promotes}
+use Rattle.cluster_model.specs.NamesInRules.{first_leaf, is_missing, last_leaf, place_of_node, promotes}
 use Rattle.cluster_model.specs.Resources.{all_primitives}
 use Rattle.cluster_model.specs.Settings.{count_nodes}
+
+-- how many nodes, leaves and rules there may be (rule of this project)
+abbrev pub most_nodes : ℕ
+most_nodes = 256
+
+abbrev pub most_leaves : ℕ
+most_leaves = 1000
+
+abbrev pub most_rules : ℕ
+most_rules = 2000
 
 -- more than there may be
 abbrev pub too_many : List Statement → Option ModelCause
 too_many statements =
-    if nat_lt 256 (count_nodes statements) then Some TooManyNodes
-    else if nat_lt 1000 (length (all_primitives statements)) then Some TooManyLeaves
-    else if nat_lt 2000 (sum_by (λ s. rule_count s.form) statements) then Some TooManyRules
+    if nat_lt most_nodes (count_nodes statements) then Some TooManyNodes
+    else if nat_lt most_leaves (length (all_primitives statements)) then Some TooManyLeaves
+    else if nat_lt most_rules (sum_by (λ s. rule_count s.form) statements) then Some TooManyRules
     else None
 
 module _ (leaves : Leaves) (statements : List Statement) where

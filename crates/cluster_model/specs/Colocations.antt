@@ -7,10 +7,10 @@ use Rattle.crm_parse.specs.declared.form.Form.TheVariants as form
 use Rattle.cluster_types.specs.declared.leaf.Role.{Role}
 use Rattle.cluster_types.specs.declared.leaf.Role.TheVariants as role
 use Rattle.cluster_types.specs.declared.rules.Colocation.{Colocation}
-use Rattle.cluster_model.specs.Successive.{successive}
+use Rattle.cluster_model.specs.SuccessivePairs.{successive}
 use Rattle.cluster_model.specs.Locations.{role_of_word}
 use Rattle.cluster_model.specs.declared.expansion.leaves.Leaves.{Leaves}
-use Rattle.cluster_model.specs.Named.{first_leaf, last_leaf}
+use Rattle.cluster_model.specs.NamesInRules.{first_leaf, last_leaf}
 
 module _ (leaves : Leaves) where
   -- a colocation of the first leaf of the dependent and the last leaf of the primary

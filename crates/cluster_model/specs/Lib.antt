@@ -3,7 +3,7 @@ pub mod Causes
 pub mod Resources
 pub mod Nodes
 pub mod Options
-pub mod Named
+pub mod NamesInRules
 pub mod Locations
 pub mod Colocations
 pub mod Orders
@@ -17,7 +17,7 @@ pub mod Settings
 pub mod Clones
 pub mod Leaves
 pub mod Spans
-pub mod Successive
+pub mod SuccessivePairs
 pub mod Faults
 pub mod Expansion
 pub mod Laws

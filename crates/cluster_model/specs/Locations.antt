@@ -12,7 +12,7 @@ use Rattle.cluster_types.specs.declared.leaf.Role.TheVariants as role
 use Rattle.cluster_types.specs.declared.rules.Location.{Location}
 use Rattle.cluster_types.specs.declared.rules.RuleLocation.{RuleLocation}
 use Rattle.cluster_model.specs.declared.expansion.leaves.Leaves.{Leaves}
-use Rattle.cluster_model.specs.Named.{first_leaf, node_number}
+use Rattle.cluster_model.specs.NamesInRules.{first_leaf, node_number}
 
 abbrev pub role_of_word : RoleWord → Role
 role_of_word word.Started = role.Started

@@ -14,9 +14,9 @@ use Rattle.cluster_types.specs.declared.leaf.Op.TheVariants as op
 use Rattle.cluster_types.specs.declared.rules.Order.{Order}
 use Rattle.cluster_types.specs.declared.rules.OrderKind.{OrderKind}
 use Rattle.cluster_types.specs.declared.rules.OrderKind.TheVariants as kind
-use Rattle.cluster_model.specs.Successive.{successive}
+use Rattle.cluster_model.specs.SuccessivePairs.{successive}
 use Rattle.cluster_model.specs.declared.expansion.leaves.Leaves.{Leaves}
-use Rattle.cluster_model.specs.Named.{first_leaf, is_on_nodes, last_leaf}
+use Rattle.cluster_model.specs.NamesInRules.{first_leaf, is_local, last_leaf}
 
 abbrev pub op_of : ActionWord → Op
 op_of action.Start = op.Start
@@ -56,7 +56,7 @@ module _ (leaves : Leaves) (statements : List Statement) where
     then_leaf = leaf_begun leaves other then_what;
     then_op = op_of then_what;
     symmetrical = symmetrical;
-    local = is_on_nodes leaves statements (leaf_done leaves one what) (leaf_begun leaves other then_what);
+    local = is_local leaves statements (leaf_done leaves one what) (leaf_begun leaves other then_what);
   }
 
   -- an order of several resources is one for each two that follow each other. Each member of a group starts after the member before it

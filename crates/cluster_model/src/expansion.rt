@@ -19,7 +19,7 @@ pub mod spans;
 // The faults of resources.
 pub mod kinds;
 pub mod leaf_checks;
-pub mod seen;
+pub mod seen_names;
 
 // All leaves.
 pub mod whole;

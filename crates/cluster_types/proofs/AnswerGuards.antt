@@ -11,7 +11,7 @@ use Rattle.cluster_types.specs.declared.journal.Outcome.TheVariants.{Code}
 use Rattle.cluster_types.specs.declared.leaf.Op.TheVariants.{Start, Stop, Monitor}
 use Rattle.cluster_types.specs.declared.leaf.OnFail.TheVariants as on_fail
 use Rattle.cluster_types.specs.declared.leaf.Role.TheVariants as role
-use Rattle.cluster_types.specs.Answering.{applies_after}
+use Rattle.cluster_types.specs.AnswersThatApply.{applies_after}
 use Rattle.cluster_types.specs.Runs.{AppliesAt, IsCutAt, IsOver, amid, idle}
 use Rattle.cluster_types.specs.Sources.{Says, told, untold, used_up}
 use Rattle.cluster_types.specs.Steps.{Transition, aborts, is_success}

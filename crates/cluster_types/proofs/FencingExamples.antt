@@ -18,7 +18,7 @@ use Rattle.cluster_types.specs.declared.states.NodeState.TheVariants as state
 use Rattle.cluster_types.specs.CellStates.{cell_state}
 use Rattle.cluster_types.specs.Fields.{copies, may_migrate, monitors}
 use Rattle.cluster_types.specs.Journals.{first_events, unsaid, online as is_online}
-use Rattle.cluster_types.specs.Needed.{Cycled, GetsStep, Needed, kept, fence, step as first_step}
+use Rattle.cluster_types.specs.NeededActions.{Cycled, GetsStep, Needed, kept, fence, step as first_step}
 use Rattle.cluster_types.specs.NodeStates.{node_state}
 use Rattle.cluster_types.specs.Numbers.{AreNumbered, is_earlier}
 use Rattle.cluster_types.specs.Pins.{is_unprobed_state}

@@ -15,8 +15,8 @@ use Rattle.cluster_types.specs.declared.placement.Target.TheVariants as target
 use Rattle.cluster_types.specs.declared.rules.Order.{Order}
 use Rattle.cluster_types.specs.declared.rules.OrderKind.{OrderKind}
 use Rattle.cluster_types.specs.declared.rules.OrderKind.TheVariants as kind
-use Rattle.cluster_types.specs.Answering.{applies_after}
-use Rattle.cluster_types.specs.Needed.{Cycled, IsHarmlessOrder, by_order, by_cycled, has_disturbing, steps_at}
+use Rattle.cluster_types.specs.AnswersThatApply.{applies_after}
+use Rattle.cluster_types.specs.NeededActions.{Cycled, IsHarmlessOrder, by_order, by_cycled, has_disturbing, steps_at}
 use Rattle.cluster_types.specs.Numbers.{is_earlier}
 use Rattle.cluster_types.specs.Steps.{silent_code, is_success}
 use Rattle.cluster_types.specs.Tables.{Targets}

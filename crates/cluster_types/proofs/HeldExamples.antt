@@ -45,7 +45,7 @@ b_may_be_held = record {
   mandatory = refl;
   first_gives = refl;
   then_gives = refl;
-  managed = refl;
+  not_pinned = refl;
   within = omega arith;
   chosen = refl;
 }

@@ -10,7 +10,7 @@ use Rattle.cluster_types.specs.declared.journal.Event.{Event}
 use Rattle.cluster_types.specs.declared.journal.Event.TheVariants.{Up, Down, Lost, Quorum, Wait, Cleanup, Begin, Ended}
 use Rattle.cluster_types.proofs.Booleans.{clash}
 use Rattle.cluster_types.proofs.StepLaws.{begins_nothing}
-use Rattle.cluster_types.specs.Journals.{NodeWord, online, offline, unclean, unsaid, NodeSign, joined, in_flight_by_begin, sign_of, last_sign, wants_node, Orderly, is_history_event, leaving, first_events}
+use Rattle.cluster_types.specs.Journals.{NodeSaid, online, offline, unclean, unsaid, NodeSign, joined, in_flight_by_begin, sign_of, last_sign, needs_node, Orderly, is_history_event, leaving, first_events}
 
 -- events that begin nothing leave nothing in flight
 pub nothing_begun : (es : List Event) → list_all begins_nothing es ≡ true → in_flight_by_begin es ≡ []
@@ -38,13 +38,13 @@ module _ (p : Event → Bool) (up : (n : ℕ) → p (Up n) ≡ true) (down : (n 
   lost_or_down_passes true n = and_from (p (Lost n)) true (lost n) refl
   lost_or_down_passes false n = and_from (p (Down n)) true (down n) refl
 
-  leaving_passes : (c : Cluster) (n : ℕ) (word : NodeWord) → list_all p (leaving c (n, word)) ≡ true
+  leaving_passes : (c : Cluster) (n : ℕ) (word : NodeSaid) → list_all p (leaving c (n, word)) ≡ true
   leaving_passes c n online = refl
   leaving_passes c n offline = and_from (p (Down n)) true (down n) refl
   leaving_passes c n unclean = and_from (p (Lost n)) true (lost n) refl
   leaving_passes c n unsaid = lost_or_down_passes (c.properties.fencing && c.properties.startup_fencing) n
 
-  leaves_pass : (c : Cluster) (n : ℕ) (words : List NodeWord) → list_all p (flat_map (leaving c) (enumerate_from n words)) ≡ true
+  leaves_pass : (c : Cluster) (n : ℕ) (words : List NodeSaid) → list_all p (flat_map (leaving c) (enumerate_from n words)) ≡ true
   leaves_pass c n [] = refl
   leaves_pass c n (word ∷ words) =
       all_joined p (leaving c (n, word)) (flat_map (leaving c) (enumerate_from (n + 1) words)) (leaving_passes c n word) (leaves_pass c (n + 1) words)
@@ -56,7 +56,7 @@ reports_begin_nothing nodes (Cleanup r n ∷ es) h = reports_begin_nothing nodes
 reports_begin_nothing nodes (e ∷ es) h = cc
 
 -- the first journal has nothing in flight
-pub nothing-in-flight : (c : Cluster) (history : List Event) (words : List NodeWord) (quorum : Bool) (now : ℕ)
+pub nothing-in-flight : (c : Cluster) (history : List Event) (words : List NodeSaid) (quorum : Bool) (now : ℕ)
     → list_all (is_history_event (length c.nodes)) history ≡ true → in_flight_by_begin (first_events c history words quorum now) ≡ []
 nothing-in-flight c history words quorum now h =
     let joins = map Up (range_with_len 0 (length c.nodes)) in
@@ -99,7 +99,7 @@ no_sign n nodes (Ended k (Operation op leaf node interval role) o moment) h = re
 no_sign n nodes (Cleanup leaf node) h = refl
 no_sign n nodes _ h = cc
 
-node_known : (n nodes : ℕ) (e : Event) → is_history_event nodes e ≡ true → wants_node n e ≡ true → n < nodes
+node_known : (n nodes : ℕ) (e : Event) → is_history_event nodes e ≡ true → needs_node n e ≡ true → n < nodes
 node_known n nodes (Ended k (Probe leaf node) o moment) h w = grind arith
 node_known n nodes (Ended k (Operation op leaf node interval role) o moment) h w = grind arith
 node_known n nodes _ h w = cc
@@ -108,24 +108,24 @@ unsigned : (o : Option NodeSign) (rest : List NodeSign) → o ≡ None → rest 
 unsigned None rest h k = k
 unsigned (Some s) rest h k = cc
 
-module _ (n : ℕ) (after : List Event) (e : Event) (w : wants_node n e ≡ true) where
+module _ (n : ℕ) (after : List Event) (e : Event) (w : needs_node n e ≡ true) where
   -- the event that wants the node doesn't stand where no event wants one
-  unwanted : {X : Type 0} (u v : X) (rest before : List Event) → list_all (λ k. not (wants_node n k)) rest ≡ true → rest ≡ before ++ e ∷ after → u ≡ v
+  unwanted : {X : Type 0} (u v : X) (rest before : List Event) → list_all (λ k. not (needs_node n k)) rest ≡ true → rest ≡ before ++ e ∷ after → u ≡ v
   unwanted u v [] [] h q = cc
   unwanted u v [] (b ∷ bs) h q = cc
-  unwanted u v (x ∷ xs) [] h q = let same : x ≡ e = cc in let g : wants_node n x ≡ true = cc in clash u v (wants_node n x) _ h g
-  unwanted u v (x ∷ xs) (b ∷ bs) h q = let tail : xs ≡ bs ++ e ∷ after = cc in unwanted u v xs bs (later (not (wants_node n x)) _ h) tail
+  unwanted u v (x ∷ xs) [] h q = let same : x ≡ e = cc in let g : needs_node n x ≡ true = cc in clash u v (needs_node n x) _ h g
+  unwanted u v (x ∷ xs) (b ∷ bs) h q = let tail : xs ≡ bs ++ e ∷ after = cc in unwanted u v xs bs (later (not (needs_node n x)) _ h) tail
 
-  past : {X : Type 0} (u v : X) (xs ys before : List Event) → list_all (λ k. not (wants_node n k)) xs ≡ true → xs ++ ys ≡ before ++ e ∷ after
+  past : {X : Type 0} (u v : X) (xs ys before : List Event) → list_all (λ k. not (needs_node n k)) xs ≡ true → xs ++ ys ≡ before ++ e ∷ after
       → ((b : List Event) → before ≡ xs ++ b → ys ≡ b ++ e ∷ after → u ≡ v) → u ≡ v
   past u v [] ys before h q k = k before refl q
-  past u v (x ∷ xs) ys [] h q k = let same : x ≡ e = cc in let g : wants_node n x ≡ true = cc in clash u v (wants_node n x) _ h g
+  past u v (x ∷ xs) ys [] h q k = let same : x ≡ e = cc in let g : needs_node n x ≡ true = cc in clash u v (needs_node n x) _ h g
   past u v (x ∷ xs) ys (b ∷ bs) h q k =
       let tail : xs ++ ys ≡ bs ++ e ∷ after = cc in
       let same : x ≡ b = cc in
-      past u v xs ys bs (later (not (wants_node n x)) _ h) tail (λ c p r. let g : b ∷ bs ≡ x ∷ (xs ++ c) = cc in k c g r)
+      past u v xs ys bs (later (not (needs_node n x)) _ h) tail (λ c p r. let g : b ∷ bs ≡ x ∷ (xs ++ c) = cc in k c g r)
 
-  module _ (nodes : ℕ) (rest : List Event) (h : list_all (λ k. not (wants_node n k)) rest ≡ true) where
+  module _ (nodes : ℕ) (rest : List Event) (h : list_all (λ k. not (needs_node n k)) rest ≡ true) where
     no_sign_before : (xs before : List Event) → list_all (is_history_event nodes) xs ≡ true → xs ++ rest ≡ before ++ e ∷ after → filter_map (sign_of n) before ≡ []
     no_sign_before [] before g q = unwanted (filter_map (sign_of n) before) [] rest before h q
     no_sign_before (x ∷ xs) [] g q = refl
@@ -147,14 +147,14 @@ glued : (a b c : List NodeSign) → c ≡ a ++ b → a ≡ joined ∷ [] → b �
 glued a b c q h k = let e : a ++ b ≡ (joined ∷ []) ++ [] = cc in q ∙ e
 
 -- the first journal is in order
-pub in-order : (c : Cluster) (history : List Event) (words : List NodeWord) (quorum : Bool) (now : ℕ)
+pub in-order : (c : Cluster) (history : List Event) (words : List NodeSaid) (quorum : Bool) (now : ℕ)
     → list_all (is_history_event (length c.nodes)) history ≡ true → Orderly (first_events c history words quorum now)
 in-order c history words quorum now h before after e n q w =
     let nodes = length c.nodes in
     let joins = map Up (range_with_len 0 nodes) in
     let leaves = flat_map (leaving c) (enumerate_from 0 words) in
     let last = Quorum quorum ∷ Wait now ∷ [] in
-    let unwanting : Event → Bool = λ k. not (wants_node n k) in
+    let unwanting : Event → Bool = λ k. not (needs_node n k) in
     let rest_wants_none = all_joined unwanting leaves last (leaves_pass unwanting (λ m. refl) (λ m. refl) (λ m. refl) c 0 words) refl in
     let grouped : joins ++ (history ++ (leaves ++ last)) ≡ joins ++ history ++ leaves ++ last =
     sym (append_assoc (joins ++ history) leaves last ∙ append_assoc joins history (leaves ++ last)) in

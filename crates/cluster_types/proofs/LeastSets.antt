@@ -5,7 +5,7 @@ use Rattle.cluster_types.specs.declared.journal.Event.{Event}
 use Rattle.cluster_types.specs.declared.placement.Decision.{Decision}
 use Rattle.cluster_types.specs.Held.{Held, by_order, by_colocation, by_place}
 use Rattle.cluster_types.specs.LeastSets.{IsClosedUnderCycling, IsClosedUnderHolding}
-use Rattle.cluster_types.specs.Needed as cycling
+use Rattle.cluster_types.specs.NeededActions as cycling
 use Rattle.cluster_types.specs.Tables.{Targets}
 
 pub held-closed : (c : Cluster) (es : List Event) (table : Targets) → IsClosedUnderHolding c es table (Held c es table)

@@ -14,7 +14,7 @@ use Rattle.cluster_types.specs.declared.run.PassedEnd.TheVariants.{Complete}
 use Rattle.cluster_types.specs.declared.run.RunLine.TheVariants as line
 use Rattle.cluster_types.specs.Journals.{in_flight_by_begin}
 use Rattle.cluster_types.specs.Safety.{without_gone}
-use Rattle.cluster_types.specs.Steps.{Transition, answer_events, resting}
+use Rattle.cluster_types.specs.Steps.{Transition, answer_events, idling}
 use Rattle.cluster_types.specs.Texts.{all_passed_lines, between, event_lines}
 use Rattle.cluster_types.proofs.SmallClusters.{plain_leaf, two_nodes, online, step}
 use Rattle.cluster_types.proofs.SmallRuns.{transition}
@@ -42,7 +42,7 @@ lost_with_its_probe = refl
 fence_goes_on : answer_events watched both_begun (answer.Lost 0) ≡ Lost 0 ∷ []
 fence_goes_on = refl
 
-lost_while_idle : answer_events (resting one (online [] 1000)) [] (answer.Lost 1) ≡ Lost 1 ∷ []
+lost_while_idle : answer_events (idling one (online [] 1000)) [] (answer.Lost 1) ≡ Lost 1 ∷ []
 lost_while_idle = refl
 
 before_the_loss : without_gone (Up 1 ∷ Ended 2 (Probe 0 1) Gone 1000 ∷ []) ≡ Up 1 ∷ []

@@ -17,7 +17,7 @@ use Rattle.cluster_types.specs.declared.states.CellState.TheVariants as cell
 use Rattle.cluster_types.specs.CellStates.{cell_state}
 use Rattle.cluster_types.specs.Fields.{copies, monitors}
 use Rattle.cluster_types.specs.May.{may_be_running}
-use Rattle.cluster_types.specs.Needed.{Cycled, GetsStep, NeededBeforeMigration, step as first_step, Migrates, Needed, kept, sent, taken_in}
+use Rattle.cluster_types.specs.NeededActions.{Cycled, GetsStep, NeededBeforeMigration, step as first_step, Migrates, Needed, kept, sent, taken_in}
 use Rattle.cluster_types.specs.Numbers.{AreNumbered, is_earlier}
 use Rattle.cluster_types.specs.Pins.{is_unprobed_state}
 use Rattle.cluster_types.specs.Rights.{is_to_be_fenced}
@@ -64,8 +64,8 @@ it_migrates : Migrates machine runs_on_n1 table 0 0 1
 it_migrates = record {
   allowed = refl;
   uncloned = refl;
-  plain = refl;
-  managed = refl;
+  not_promotable = refl;
+  not_pinned = refl;
   running = refl;
   nowhere_else = λ k h d. below_two (λ k. k ≢ 0 → may_be_running machine 0 k runs_on_n1 ≡ false) (λ d. absurd (d refl)) (λ d. refl) k h d;
   elsewhere = λ e. cc;

@@ -13,31 +13,31 @@ use Rattle.cluster_types.specs.declared.placement.Target.TheVariants as target
 use Rattle.cluster_types.specs.declared.rules.Colocation.{Colocation}
 use Rattle.cluster_types.specs.declared.rules.Order.{Order}
 use Rattle.cluster_types.specs.declared.rules.OrderKind.TheVariants as kind
-use Rattle.cluster_types.specs.Answering.{added_by}
-use Rattle.cluster_types.specs.Journals.{wants_node}
+use Rattle.cluster_types.specs.AnswersThatApply.{added_by}
+use Rattle.cluster_types.specs.Journals.{needs_node}
 use Rattle.cluster_types.specs.May.{may_be_running}
-use Rattle.cluster_types.specs.Needed.{GetsStepAnywhere, IsHarmlessColocation, IsHarmlessOrder, Migrates}
+use Rattle.cluster_types.specs.NeededActions.{GetsStepAnywhere, IsHarmlessColocation, IsHarmlessOrder, Migrates}
 use Rattle.cluster_types.specs.Tables.{Targets}
 use Rattle.cluster_types.proofs.NeededLaws.{can_be_cycled}
 use Rattle.cluster_types.proofs.SmallClusters.{plain_leaf, two_nodes, colocation, start_order, did, probed, online}
 
 -- a sending begins only while both nodes are there, and ends while its source is; a taking in wants its target alone
-sending_wants_its_source : wants_node 0 (Begin 1 (MigrateTo 0 0 1)) ≡ true
+sending_wants_its_source : needs_node 0 (Begin 1 (MigrateTo 0 0 1)) ≡ true
 sending_wants_its_source = refl
 
-sending_wants_its_target : wants_node 1 (Begin 1 (MigrateTo 0 0 1)) ≡ true
+sending_wants_its_target : needs_node 1 (Begin 1 (MigrateTo 0 0 1)) ≡ true
 sending_wants_its_target = refl
 
-sending_ends_without_its_target : wants_node 1 (Ended 1 (MigrateTo 0 0 1) (Code 0) 1000) ≡ false
+sending_ends_without_its_target : needs_node 1 (Ended 1 (MigrateTo 0 0 1) (Code 0) 1000) ≡ false
 sending_ends_without_its_target = refl
 
-sending_ends_with_its_source : wants_node 0 (Ended 1 (MigrateTo 0 0 1) (Code 0) 1000) ≡ true
+sending_ends_with_its_source : needs_node 0 (Ended 1 (MigrateTo 0 0 1) (Code 0) 1000) ≡ true
 sending_ends_with_its_source = refl
 
-taking_in_wants_its_target : wants_node 1 (Begin 2 (MigrateFrom 0 0 1)) ≡ true
+taking_in_wants_its_target : needs_node 1 (Begin 2 (MigrateFrom 0 0 1)) ≡ true
 taking_in_wants_its_target = refl
 
-taking_in_wants_no_source : wants_node 0 (Begin 2 (MigrateFrom 0 0 1)) ≡ false
+taking_in_wants_no_source : needs_node 0 (Begin 2 (MigrateFrom 0 0 1)) ≡ false
 taking_in_wants_no_source = refl
 
 -- two machines, of which the second may be moved live, both on n1 and both better on n2

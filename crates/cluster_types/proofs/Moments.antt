@@ -10,9 +10,9 @@ use Rattle.cluster_types.specs.declared.journal.Event.{Event}
 use Rattle.cluster_types.specs.declared.journal.Event.TheVariants as event
 use Rattle.cluster_types.specs.declared.journal.Outcome.{Outcome}
 use Rattle.cluster_types.specs.declared.journal.Outcome.TheVariants.{Gone}
-use Rattle.cluster_types.specs.Answering.{added_by, applies_after, end_event, most_from_outside}
+use Rattle.cluster_types.specs.AnswersThatApply.{added_by, applies_after, end_event, most_from_outside}
 use Rattle.cluster_types.specs.Journals.{is_on, moment_of, seconds_of}
-use Rattle.cluster_types.specs.Steps.{Applies, Transition, StepsOn, Goes, begins, takes, is_silent, here, one_more, answer_events, in_flight_by_number, journal, count_from_outside, resting}
+use Rattle.cluster_types.specs.Steps.{Applies, Transition, StepsOn, Goes, begins, takes, is_silent, here, one_more, answer_events, in_flight_by_number, journal, count_from_outside, idling}
 use Rattle.lemmas.proofs.Booleans.{later}
 
 abbrev limit : ℕ
@@ -72,10 +72,10 @@ steps_keep t whole rest _ since _ (here _ _) low = low
 steps_keep t whole rest left since later (one_more _ events _ _ middle _ step more) low =
     steps_keep t whole middle left (since ++ events) later more (step_keeps t whole since events rest middle step low)
 
-pub idle_keeps : (c : Cluster) (es : List Event) (given : Answer) → Applies (resting c es) [] given → moment_of es < limit
-    → moment_of (es ++ answer_events (resting c es) [] given) < limit
+pub idle_keeps : (c : Cluster) (es : List Event) (given : Answer) → Applies (idling c es) [] given → moment_of es < limit
+    → moment_of (es ++ answer_events (idling c es) [] given) < limit
 idle_keeps c es given h low =
     let none = append-nil es in
-    subst (λ xs. moment_of (xs ++ answer_events (resting c es) [] given) < limit) none
-    (answer_keeps c (journal (resting c es) []) (in_flight_by_number (resting c es) []) (count_from_outside (resting c es) []) given h
+    subst (λ xs. moment_of (xs ++ answer_events (idling c es) [] given) < limit) none
+    (answer_keeps c (journal (idling c es) []) (in_flight_by_number (idling c es) []) (count_from_outside (idling c es) []) given h
     (subst (λ xs. moment_of xs < limit) (sym none) low))

@@ -14,7 +14,7 @@ use Rattle.cluster_types.specs.declared.leaf.Role.TheVariants as role
 use Rattle.cluster_types.specs.declared.rules.Order.{Order}
 use Rattle.cluster_types.specs.CellStates.{cell_state}
 use Rattle.cluster_types.specs.Fields.{copies, may_migrate, monitors}
-use Rattle.cluster_types.specs.Needed.{Cycled, by_copies, by_order, by_cycled, can_cycle, steps_at, GetsStep, NeedsMonitor, NeededBeforeMigration, fence, probe, step, monitor, Migrates, Needed, kept, sent, taken_in}
+use Rattle.cluster_types.specs.NeededActions.{Cycled, by_copies, by_order, by_cycled, can_cycle, steps_at, GetsStep, NeedsMonitor, NeededBeforeMigration, fence, probe, step, monitor, Migrates, Needed, kept, sent, taken_in}
 use Rattle.cluster_types.specs.Pins.{is_unprobed_state}
 use Rattle.cluster_types.specs.Rights.{is_to_be_fenced}
 use Rattle.cluster_types.specs.Tables.{Targets}

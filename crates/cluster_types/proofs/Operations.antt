@@ -8,7 +8,7 @@ use Rattle.cluster_types.specs.declared.leaf.Op.TheVariants as op
 use Rattle.cluster_types.specs.declared.leaf.Role.{Role}
 use Rattle.cluster_types.specs.declared.leaf.Role.TheVariants as role
 use Rattle.cluster_types.specs.Precedence.{CellOf, as_earlier, as_later, both, cell_of, change_cell, gives_any, is_migrating, is_same_op, op_cell, start_cell, takers, takes_or_probes}
-use Rattle.cluster_types.specs.Precedes.{IsOperation, operation, CountsAsFirst, first_itself, first_taken_in, CountsAsLater, later_itself, later_sent_to, later_sent_off, TakesOrAsks, asks, takes, giver}
+use Rattle.cluster_types.specs.Precedes.{IsOperation, operation, CountsAsFirst, first_itself, first_taken_in, CountsAsLater, later_itself, later_sent_to, later_sent_off, TakesOrProbes, probes, takes, giver}
 use Rattle.cluster_types.proofs.Few.{of_one, of_two}
 use Rattle.cluster_types.proofs.OpLaws.{op_itself}
 
@@ -179,18 +179,18 @@ module _ (actions : List Action) where
   cell_of_given role.Started y r n k = any_of_start y r n k
   cell_of_given role.Promoted y r n k = any_of_promote y r n k
 
--- what takes a role away, or asks for it
+-- what takes a role away, or probes for it
 stop_taken : Contains (takers (giver role.Promoted)) op.Stop
 stop_taken = in_rest op.Demote (op.Stop ∷ []) op.Stop (at_head op.Stop [] op.Stop refl)
 
-pub taken_at : (held : Role) (x : Action) (a : CellOf) → takes_or_probes held x ≡ Some a → TakesOrAsks held x a.leaf a.node
-taken_at role.Started (Probe r n) a h = moved (TakesOrAsks role.Started (Probe r n)) r n a h (asks r n)
+pub taken_at : (held : Role) (x : Action) (a : CellOf) → takes_or_probes held x ≡ Some a → TakesOrProbes held x a.leaf a.node
+taken_at role.Started (Probe r n) a h = moved (TakesOrProbes role.Started (Probe r n)) r n a h (probes r n)
 taken_at role.Started (Fence n) a h = cc
 taken_at role.Started (Operation o r n i given) a h =
     takes op.Stop (Operation o r n i given) a.leaf a.node (at_head op.Stop [] op.Stop refl) (operation_at op.Stop (Operation o r n i given) a h)
 taken_at role.Started (MigrateTo r s t) a h = cc
 taken_at role.Started (MigrateFrom r s t) a h = cc
-taken_at role.Promoted (Probe r n) a h = moved (TakesOrAsks role.Promoted (Probe r n)) r n a h (asks r n)
+taken_at role.Promoted (Probe r n) a h = moved (TakesOrProbes role.Promoted (Probe r n)) r n a h (probes r n)
 taken_at role.Promoted (Fence n) a h = cc
 taken_at role.Promoted (Operation op.Start r n i given) a h = cc
 taken_at role.Promoted (Operation op.Stop r n i given) a h =
@@ -213,8 +213,8 @@ cell_of_asked : (held : Role) (r n : ℕ) → takes_or_probes held (Probe r n) �
 cell_of_asked role.Started r n = refl
 cell_of_asked role.Promoted r n = refl
 
-pub cell_of_taken : (held : Role) (x : Action) (r n : ℕ) → TakesOrAsks held x r n → takes_or_probes held x ≡ cell_of r n
-cell_of_taken held _ _ _ (asks r n) = cell_of_asked held r n
+pub cell_of_taken : (held : Role) (x : Action) (r n : ℕ) → TakesOrProbes held x r n → takes_or_probes held x ≡ cell_of r n
+cell_of_taken held _ _ _ (probes r n) = cell_of_asked held r n
 cell_of_taken role.Started _ _ _ (takes p x r n c k) =
     of_one (λ v. IsOperation v x r n → takes_or_probes role.Started x ≡ cell_of r n) op.Stop p (cell_of_stopped role.Started x r n) c k
 cell_of_taken role.Promoted _ _ _ (takes p x r n c k) =

@@ -19,7 +19,7 @@ use Rattle.cluster_types.specs.Choice.{is_separation}
 use Rattle.cluster_types.specs.Fields.{copies}
 use Rattle.cluster_types.specs.Precedence.{CellOf, as_earlier, as_later, both, cell_of, change_cell, comes_first_in_cell, demotes_first, fences_first, gives_any, gives_role, inverse, is_across, is_inverse_pair, is_one_cell, is_one_leaf, is_ordered, is_ordered_pair, is_parted, is_serialize, is_serialized, is_some_cell, is_taken_back, is_giving, migrates_first, must_precede, op_cell, parts_first, probe_cell, probes_first, stops_first, takers, takes_or_probes}
 use Rattle.cluster_types.specs.Precedes as precedes
-use Rattle.cluster_types.specs.Precedes.{IsOperation, operation, CountsAsFirst, CountsAsLater, TakesOrAsks, giver, ComesFirstOnCell, demote_stop, start_promote, change_monitor, AreSides, dependent_first, primary_first, PutsFirst, forth, back, turned, AreEnds, first_and_then, then_and_first, MigratesInTurn, taken_in_later, stopped_later, watched_later}
+use Rattle.cluster_types.specs.Precedes.{IsOperation, operation, CountsAsFirst, CountsAsLater, TakesOrProbes, giver, ComesFirstOnCell, demote_stop, start_promote, change_monitor, AreSides, dependent_first, primary_first, PutsFirst, forth, back, turned, AreEnds, first_and_then, then_and_first, MigratesInTurn, taken_in_later, stopped_later, watched_later}
 use Rattle.cluster_types.specs.Tables.{is_in_scope}
 use Rattle.cluster_types.proofs.Few.{of_two}
 use Rattle.cluster_types.proofs.Operations.{two_cells, cells_pass, leaf_is, operation_at, cell_of_operation, first_at, cell_of_first, later_at, cell_of_later, given_at, cell_of_given, taken_at, cell_of_taken, changed_at, cell_of_changed}
@@ -124,7 +124,7 @@ module _ (c : Cluster) (actions : List Action) (is_earlier : Action → Action �
       let (leaves, node) = and_parts (b.one.leaf == r && b.other.leaf == s) (b.one.node == b.other.node) b.passes in
       let (left, right) = and_parts (b.one.leaf == r) (b.other.leaf == s) leaves in
       precedes.apart col r s b.one.node held given x y present separate sides
-      (subst (λ v. TakesOrAsks held x v b.one.node) (eqb-true b.one.leaf r left) (taken_at held x b.one b.is_one))
+      (subst (λ v. TakesOrProbes held x v b.one.node) (eqb-true b.one.leaf r left) (taken_at held x b.one b.is_one))
       (subst (λ v. CountsAsLater actions (giver given) y s v) (sym (eqb-true b.one.node b.other.node node))
       (subst (λ v. CountsAsLater actions (giver given) y v b.other.node) (eqb-true b.other.leaf s right) (gives given y b.other b.is_other)))
     where
@@ -326,13 +326,13 @@ module _ (c : Cluster) (actions : List Action) (is_earlier : Action → Action �
   cell_of_role role.Started y r n k = cell_of_later actions op.Start y r n k
   cell_of_role role.Promoted y r n k = cell_of_later actions op.Promote y r n k
 
-  parted_test : (r s n : ℕ) (held given : Role) (x y : Action) → TakesOrAsks held x r n → CountsAsLater actions (giver given) y s n → is_parted r held s given x y ≡ true
+  parted_test : (r s n : ℕ) (held given : Role) (x y : Action) → TakesOrProbes held x r n → CountsAsLater actions (giver given) y s n → is_parted r held s given x y ≡ true
   parted_test r s n held given x y k l =
       cells_pass (λ a b. a.leaf == r && b.leaf == s && a.node == b.node) (takes_or_probes held x) (gives_role given y) r n s n
       (cell_of_taken held x r n k) (cell_of_role given y s n l)
       (and_from (r == r && s == s) (n == n) (and_from (r == r) (s == s) (itself r) (itself s)) (itself n))
 
-  side_test : (col : Colocation) (r s n : ℕ) (held given : Role) (x y : Action) → AreSides col r held s given → TakesOrAsks held x r n
+  side_test : (col : Colocation) (r s n : ℕ) (held given : Role) (x y : Action) → AreSides col r held s given → TakesOrProbes held x r n
       → CountsAsLater actions (giver given) y s n
       → (is_parted col.dependent col.dependent_role col.primary col.primary_role x y || is_parted col.primary col.primary_role col.dependent col.dependent_role x y) ≡ true
   side_test col _ _ n _ _ x y dependent_first k l =

@@ -16,7 +16,7 @@ use Rattle.cluster_types.specs.declared.states.CellState.TheVariants as cell
 use Rattle.cluster_types.specs.CellStates.{cell_state}
 use Rattle.cluster_types.specs.Choice.{after_decisions}
 use Rattle.cluster_types.specs.Decisions.{is_ready}
-use Rattle.cluster_types.specs.Needed.{steps_at}
+use Rattle.cluster_types.specs.NeededActions.{steps_at}
 use Rattle.cluster_types.specs.Numbers.{rank, step_of}
 use Rattle.cluster_types.specs.Pins.{pinned_targets}
 use Rattle.cluster_types.specs.Tables.{Targets}

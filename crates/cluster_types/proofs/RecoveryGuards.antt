@@ -18,7 +18,7 @@ use Rattle.cluster_types.specs.declared.rules.OrderKind.TheVariants as kind
 use Rattle.cluster_types.specs.declared.states.CellState.TheVariants as cell
 use Rattle.cluster_types.specs.Choice.{is_permitted}
 use Rattle.cluster_types.specs.Held.{OrderCanHoldBack}
-use Rattle.cluster_types.specs.Needed.{Cycled, by_copies, can_cycle, is_monitor_for, steps_at, steps_of}
+use Rattle.cluster_types.specs.NeededActions.{Cycled, by_copies, can_cycle, is_monitor_for, steps_at, steps_of}
 use Rattle.cluster_types.specs.Outcomes.{is_bad}
 use Rattle.cluster_types.specs.Reasons.{plain_reason}
 use Rattle.cluster_types.specs.Steps.{aborts, is_success}

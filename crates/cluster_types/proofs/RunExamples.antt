@@ -16,7 +16,7 @@ use Rattle.cluster_types.specs.declared.states.CellState.TheVariants as cell
 use Rattle.cluster_types.specs.CellStates.{cell_state}
 use Rattle.cluster_types.specs.Fields.{copies, may_migrate, monitors}
 use Rattle.cluster_types.specs.Journals.{first_events, online as is_online, offline as is_offline}
-use Rattle.cluster_types.specs.Needed.{Cycled, GetsStep, Needed, kept, probe, step as first_step}
+use Rattle.cluster_types.specs.NeededActions.{Cycled, GetsStep, Needed, kept, probe, step as first_step}
 use Rattle.cluster_types.specs.Numbers.{AreNumbered, is_earlier}
 use Rattle.cluster_types.specs.Pins.{is_unprobed_state}
 use Rattle.cluster_types.specs.Rights.{is_to_be_fenced}

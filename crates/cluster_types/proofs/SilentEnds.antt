@@ -8,7 +8,7 @@ use Rattle.std.proofs.lemmas.Option.{slice_get_within}
 use Rattle.cluster_types.specs.declared.journal.Action.{Action}
 use Rattle.cluster_types.specs.declared.journal.Event.{Event}
 use Rattle.cluster_types.specs.declared.journal.Outcome.TheVariants.{Code}
-use Rattle.cluster_types.specs.Answering.{end_event, is_number_of}
+use Rattle.cluster_types.specs.AnswersThatApply.{end_event, is_number_of}
 use Rattle.cluster_types.specs.Steps.{Transition, EndsSilently, ended, in_flight_by_number, is_number_in_flight, journal, numbered, silent_code, silent_end}
 
 module _ (actions : List Action) (in_flight : ℕ → Bool) where

@@ -12,7 +12,7 @@ use Rattle.cluster_types.specs.declared.journal.Event.{Event}
 use Rattle.cluster_types.specs.declared.journal.Promotion.{Promotion}
 use Rattle.cluster_types.specs.Failures.{is_fail_stopped}
 use Rattle.cluster_types.specs.NodeStates.{node_state}
-use Rattle.cluster_types.specs.Unpacked.{cell_at, states_of}
+use Rattle.cluster_types.specs.UnpackedStates.{cell_at, states_of}
 
 -- rows of one width, one behind the other
 module _ {X : Type 0} (f : ℕ → ℕ → X) (width : ℕ) where

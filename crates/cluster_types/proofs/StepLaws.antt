@@ -13,7 +13,7 @@ use Rattle.cluster_types.specs.declared.journal.Event.{Event}
 use Rattle.cluster_types.specs.declared.journal.Event.TheVariants.{Begin, Ended}
 use Rattle.cluster_types.specs.declared.journal.Outcome.{Outcome}
 use Rattle.cluster_types.specs.declared.journal.Outcome.TheVariants.{Gone}
-use Rattle.cluster_types.specs.Answering.{end_event, is_number_of}
+use Rattle.cluster_types.specs.AnswersThatApply.{end_event, is_number_of}
 use Rattle.cluster_types.specs.Journals.{is_on, moment_of}
 use Rattle.cluster_types.specs.Safety.{AtEachBegin, PredecessorsFirst}
 use Rattle.cluster_types.specs.Steps.{Transition, Begins, Goes, here, one_more, StepsOn, begins, takes, is_silent, action_at, ended, answer_events, in_flight_by_number, journal, has_aborted, has_begun, has_room, has_succeeded, may_begin, numbers}

@@ -21,13 +21,13 @@ use Rattle.cluster_types.specs.Outcomes.{effective_fail, is_block}
 abbrev pub last_outcome : Cluster → ℕ → ℕ → List Event → Option Event
 last_outcome c r n es = last_or None (outcomes c r n es)
 
-abbrev pub wants_block : Cluster → Event → Bool
-wants_block c (Ended k a o moment) = is_block (effective_fail c a)
-wants_block c _ = false
+abbrev pub asks_for_block : Cluster → Event → Bool
+asks_for_block c (Ended k a o moment) = is_block (effective_fail c a)
+asks_for_block c _ = false
 
 -- the last failure that counts blocks the cell
 abbrev pub is_blocked : Cluster → ℕ → ℕ → List Event → Bool
-is_blocked c r n es = option_map_or (wants_block c) (last_or None (counted c r n es)) false
+is_blocked c r n es = option_map_or (asks_for_block c) (last_or None (counted c r n es)) false
 
 -- the event ends the sending of a migration, with whatever outcome
 abbrev pub is_sent_away : Event → Bool

@@ -59,7 +59,7 @@ is_unpromoted_role target_role.Unpromoted = true
 is_unpromoted_role _ = false
 
 -- how many nodes a decision chooses at most: the copies of the leaf, or for a promotion its promoted copies if they are fewer; none where target-role
--- forbids the role, or a failure keeps the leaf stopped everywhere (Pacemaker Explained, "target-role", "clone-max", "promoted-max")
+-- forbids the role, or, for a place, where a failure keeps the leaf stopped everywhere (Pacemaker Explained, "target-role", "clone-max", "promoted-max")
 abbrev pub cap_of : Cluster → List Event → Decision → ℕ
 cap_of c es (Place r) = if is_stopped_role (target_role_of c r) || is_fail_stopped c r es then 0 else copies c r
 cap_of c es (Promote r) =

@@ -83,10 +83,10 @@ is_banned c r n es =
     || list_any (has_code hard_codes) (counted c r n es)
     || has_somewhere (has_code fatal_codes) c r es
 
-abbrev pub wants_stop : Cluster → Event → Bool
-wants_stop c (Ended k a o moment) = is_stop_policy (effective_fail c a)
-wants_stop c _ = false
+abbrev pub asks_for_stop : Cluster → Event → Bool
+asks_for_stop c (Ended k a o moment) = is_stop_policy (effective_fail c a)
+asks_for_stop c _ = false
 
 -- a failure somewhere keeps the leaf stopped everywhere
 abbrev pub is_fail_stopped : Cluster → ℕ → List Event → Bool
-is_fail_stopped c r es = has_somewhere (wants_stop c) c r es
+is_fail_stopped c r es = has_somewhere (asks_for_stop c) c r es

@@ -24,7 +24,7 @@ module _ (c : Cluster) (es : List Event) (table : Targets) where
     pub mandatory : o.kind ≡ kind.Mandatory
     pub first_gives : is_giving o.first_op ≡ true
     pub then_gives : is_giving o.then_op ≡ true
-    pub managed : is_pinned c es o.then_leaf ≡ false
+    pub not_pinned : is_pinned c es o.then_leaf ≡ false
     pub within : n < length c.nodes
     pub chosen : holds_role table o.then_leaf (role_given o.then_op) n ≡ true
 
@@ -32,11 +32,11 @@ module _ (c : Cluster) (es : List Event) (table : Targets) where
   pub record ColocationCanHoldBack (col : Colocation) (n : ℕ) : Type 0 where
     pub present : Contains c.colocations col
     pub mandatory : is_mandatory col ≡ true
-    pub managed : is_pinned c es col.dependent ≡ false
+    pub not_pinned : is_pinned c es col.dependent ≡ false
     pub within : n < length c.nodes
     pub chosen : holds_role table col.dependent col.dependent_role n ≡ true
 
-  -- each target that the first of the order has, in its role and in scope, is in the set (so too where it has none)
+  -- each target that the first of the order has, in its role and in scope, is in the set (it may have none)
   abbrev pub LacksFirst : (Decision → ℕ → Type 0) → Order → ℕ → Type 0
   LacksFirst set o n =
       (m : ℕ) → m < length c.nodes → is_in_scope o n m ≡ true → holds_role table o.first (role_given o.first_op) m ≡ true

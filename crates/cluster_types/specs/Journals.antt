@@ -74,23 +74,23 @@ is_on n (MigrateTo leaf source target) = source == n
 is_on n (MigrateFrom leaf source target) = target == n
 
 -- the event can happen only while the node is there: an action of a cell on it begins or ends, or a migration to it begins
-abbrev pub wants_node : ℕ → Event → Bool
-wants_node n (Begin k (MigrateTo leaf source target)) = source == n || target == n
-wants_node n (Begin k a) = is_on n a
-wants_node n (Ended k a o moment) = is_on n a
-wants_node n _ = false
+abbrev pub needs_node : ℕ → Event → Bool
+needs_node n (Begin k (MigrateTo leaf source target)) = source == n || target == n
+needs_node n (Begin k a) = is_on n a
+needs_node n (Ended k a o moment) = is_on n a
+needs_node n _ = false
 
--- the journal is in order: whenever an event wants a node, the node had joined, and since then it wasn't lost, down or fenced
+-- the journal is in order: whenever an event needs a node, the node had joined, and since then it wasn't lost, down or fenced
 abbrev pub Orderly : List Event → Type 0
 Orderly es =
-    (before after : List Event) (e : Event) (n : ℕ) → es ≡ before ++ e ∷ after → wants_node n e ≡ true → last_sign n before ≡ Some joined
+    (before after : List Event) (e : Event) (n : ℕ) → es ≡ before ++ e ∷ after → needs_node n e ≡ true → last_sign n before ≡ Some joined
 
 -- what the status says of a node
-pub data NodeWord : Type 0 where
-  online : NodeWord
-  offline : NodeWord
-  unclean : NodeWord
-  unsaid : NodeWord
+pub data NodeSaid : Type 0 where
+  online : NodeSaid
+  offline : NodeSaid
+  unclean : NodeSaid
+  unsaid : NodeSaid
 
 -- the event is of the kind that a status tells of a cluster with so many nodes: a probe or an operation of a cell ended, or the cell was cleaned up
 abbrev pub is_history_event : ℕ → Event → Bool
@@ -101,7 +101,7 @@ is_history_event nodes _ = false
 
 -- how a node leaves by its word. One of which nothing is said is lost where the cluster fences such nodes, else down
 -- (Pacemaker Explained, "startup-fencing")
-abbrev pub leaving : Cluster → ℕ × NodeWord → List Event
+abbrev pub leaving : Cluster → ℕ × NodeSaid → List Event
 leaving c (n, online) = []
 leaving c (n, offline) = Down n ∷ []
 leaving c (n, unclean) = Lost n ∷ []
@@ -109,6 +109,6 @@ leaving c (n, unsaid) = if c.properties.fencing && c.properties.startup_fencing 
 
 -- the first journal: each node joins, then comes the history of the status, then leave those that aren't online, then the word on quorum,
 -- and the seconds up to now (rule of this project)
-abbrev pub first_events : Cluster → List Event → List NodeWord → Bool → ℕ → List Event
+abbrev pub first_events : Cluster → List Event → List NodeSaid → Bool → ℕ → List Event
 first_events c history words quorum now =
     map Up (range_with_len 0 (length c.nodes)) ++ history ++ flat_map (leaving c) (enumerate_from 0 words) ++ Quorum quorum ∷ Wait now ∷ []

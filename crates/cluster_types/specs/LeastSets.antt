@@ -11,7 +11,7 @@ use Rattle.cluster_types.specs.declared.rules.Order.{Order}
 use Rattle.cluster_types.specs.Decisions.{decision_of}
 use Rattle.cluster_types.specs.Fields.{copies}
 use Rattle.cluster_types.specs.Held.{ColocationCanHoldBack, LacksFirst, LacksPrimary, OrderCanHoldBack}
-use Rattle.cluster_types.specs.Needed.{OrderMayCycle, can_cycle, has_disturbing, steps_at}
+use Rattle.cluster_types.specs.NeededActions.{OrderMayCycle, can_cycle, has_disturbing, steps_at}
 use Rattle.cluster_types.specs.Tables.{Targets, holds_role}
 use Rattle.cluster_types.specs.Terms.{active_count}
 use Rattle.cluster_types.specs.Precedence.{role_given}

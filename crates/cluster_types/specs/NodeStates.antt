@@ -12,15 +12,15 @@ use Rattle.cluster_types.specs.Failures.{failures_in_force}
 use Rattle.cluster_types.specs.Journals.{NodeSign, joined, went_down, was_lost, was_fenced, last_sign}
 use Rattle.cluster_types.specs.Outcomes.{effective_fail, is_fence}
 
-abbrev pub wants_fence : Cluster → Event → Bool
-wants_fence c (Ended k a o moment) = is_fence (effective_fail c a)
-wants_fence c _ = false
+abbrev pub asks_for_fence : Cluster → Event → Bool
+asks_for_fence c (Ended k a o moment) = is_fence (effective_fail c a)
+asks_for_fence c _ = false
 
 -- a failure in force on the node wants it fenced (Pacemaker Explained, "on-fail"). One that a failure timeout has forgotten is still in force (rule of
 -- this project)
 abbrev pub is_to_blame : Cluster → ℕ → List Event → Bool
 is_to_blame c n es =
-    list_any (λ r. list_any (wants_fence c) (failures_in_force c r n es)) (range_with_len 0 (length c.leaves))
+    list_any (λ r. list_any (asks_for_fence c) (failures_in_force c r n es)) (range_with_len 0 (length c.leaves))
 
 -- the state by the last that is shown of the node: a node that joined is online, but unclean where a failure wants it fenced; a lost node is
 -- unclean, but offline without fencing; any other node is offline (Pacemaker Explained, "Fencing")

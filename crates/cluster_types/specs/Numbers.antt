@@ -1,7 +1,7 @@
 -- The order in which actions are numbered (rule of this project).
 use Rattle.std.specs.Prelude.{◌≡◌, ◌≢◌, ◌↔◌, ℕ, suc, zero, ◌+◌, ◌*◌, nat_lt, ◌==◌, ◌&&◌, ◌||◌, Bool, true, not, if◌then◌else◌, List, [], ◌∷◌, ◌++◌, length, map, filter, fold, max, Contains, AllPairs}
 use Rattle.std.specs.List.{flat_map, range_with_len}
-use Rattle.edges.specs.Chains.{HaveNoLoop, IsLinked, IsLongestChain}
+use Rattle.edges.specs.Chains.{EdgesHaveNoLoop, IsLinked, IsLongestChain}
 use Rattle.cluster_types.specs.declared.cluster.Cluster.{Cluster}
 use Rattle.cluster_types.specs.declared.journal.Action.{Action}
 use Rattle.cluster_types.specs.declared.journal.Action.TheVariants.{Fence, Probe, Operation, MigrateTo, MigrateFrom}
@@ -81,7 +81,7 @@ rank c s = chain_within c (4 * length c.leaves) s
 
 -- the links have no loop: no chain of them leads from a step back to it
 abbrev pub StepsHaveNoLoop : Cluster → Type 0
-StepsHaveNoLoop c = HaveNoLoop (IsStepLink c)
+StepsHaveNoLoop c = EdgesHaveNoLoop (IsStepLink c)
 
 -- what is done at about the same time, in the order in which it is done
 pub data NumberPhase : Type 0 where

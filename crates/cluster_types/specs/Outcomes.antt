@@ -21,7 +21,7 @@ is_code_among codes (Code code) = list_any (λ k. k == code) codes
 is_code_among codes TimedOut = false
 is_code_among codes Gone = false
 
--- the good exit codes of an operation: success; of a monitor also running, degraded and promoted
+-- the good exit codes of an operation: success; of a monitor also degraded, promoted, and degraded promoted
 abbrev pub good_codes_of_op : Op → List ℕ
 good_codes_of_op Start = success ∷ []
 good_codes_of_op Stop = success ∷ []

@@ -16,7 +16,7 @@ use Rattle.cluster_types.specs.Choice.{after_decision, after_decisions, total_on
 use Rattle.cluster_types.specs.Decisions.{Decides}
 use Rattle.cluster_types.specs.Graphs.{GraphOf, is_before}
 use Rattle.cluster_types.specs.Held.{AreTargets}
-use Rattle.cluster_types.specs.Needed.{Needed}
+use Rattle.cluster_types.specs.NeededActions.{Needed}
 use Rattle.cluster_types.specs.Numbers.{AreNumbered, is_earlier}
 use Rattle.cluster_types.specs.Pins.{pin_of, pinned_targets}
 use Rattle.cluster_types.specs.Precedence.{must_precede}

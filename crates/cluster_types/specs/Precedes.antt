@@ -37,10 +37,10 @@ abbrev pub giver : Role → Op
 giver role.Started = op.Start
 giver role.Promoted = op.Promote
 
--- the action takes the role from the leaf on the node, or asks whether the leaf has it
-pub data TakesOrAsks (taken : Role) : Action → ℕ → ℕ → Type 0 where
-  asks : (r n : ℕ) → TakesOrAsks taken (Probe r n) r n
-  takes : (p : Op) (x : Action) (r n : ℕ) → Contains (takers (giver taken)) p → IsOperation p x r n → TakesOrAsks taken x r n
+-- the action takes the role from the leaf on the node, or probes whether the leaf has it
+pub data TakesOrProbes (taken : Role) : Action → ℕ → ℕ → Type 0 where
+  probes : (r n : ℕ) → TakesOrProbes taken (Probe r n) r n
+  takes : (p : Op) (x : Action) (r n : ℕ) → Contains (takers (giver taken)) p → IsOperation p x r n → TakesOrProbes taken x r n
 
 -- on one cell: demote before stop, start before promote, and each of the four before a monitor
 pub data ComesFirstOnCell : Op → Op → Type 0 where
@@ -90,7 +90,7 @@ module _ (c : Cluster) (actions : List Action) (is_earlier : Action → Action �
     demote : (r n m : ℕ) (p : Op) (x y : Action) → Contains (takers op.Promote) p → IsOperation p x r n → IsOperation op.Promote y r m → Precedes x y
     -- where two leaves must be apart, what takes the role of the one on a node, or probes the one there, comes before what gives the other its own there
     apart : (col : Colocation) (r s n : ℕ) (taken given : Role) (x y : Action) → Contains c.colocations col → is_separation col ≡ true
-        → AreSides col r taken s given → TakesOrAsks taken x r n → CountsAsLater actions (giver given) y s n → Precedes x y
+        → AreSides col r taken s given → TakesOrProbes taken x r n → CountsAsLater actions (giver given) y s n → Precedes x y
     -- what an order puts first comes first, in its scope ("Specifying the Order in which Resources Should Start/Stop", kinds Mandatory and Optional)
     order : (o : Order) (p q : Op) (r s n m : ℕ) (x y : Action) → Contains c.orders o → is_serialize o.kind ≡ false → PutsFirst o p r q s
         → CountsAsFirst p x r n → CountsAsLater actions q y s m → is_in_scope o n m ≡ true → Precedes x y

@@ -12,7 +12,7 @@ use Rattle.cluster_types.specs.declared.run.RunLine.{RunLine}
 use Rattle.cluster_types.specs.declared.run.RunLine.TheVariants as line
 use Rattle.cluster_types.specs.Plans.{IsPlan, transition_of}
 use Rattle.cluster_types.specs.Sources.{Says}
-use Rattle.cluster_types.specs.Steps.{Transition, StepsOn, Applies, IsWaiting, HasEnded, journal, has_aborted, answer_events, resting}
+use Rattle.cluster_types.specs.Steps.{Transition, StepsOn, Applies, IsWaiting, HasEnded, journal, has_aborted, answer_events, idling}
 use Rattle.cluster_types.specs.Tables.{targets_of}
 use Rattle.cluster_types.specs.Texts.{event_lines, target_lines}
 
@@ -48,8 +48,8 @@ module _ (c : Cluster) (promotions : List Promotion) (whole : Bool) where
         → RunsOn (amid k t since) rest (line.Aborted k ∷ []) (due (k + 1) (journal t since)) rest
     -- an answer comes while nothing is to be done, and the next is due
     answers : (k : ℕ) (es : List Event) (rest left : Option (List Answer)) (given : Answer) → Says whole rest (Some given) left
-        → Applies (resting c es) [] given
-        → RunsOn (idle k es) rest (line.Taken given ∷ []) (due (k + 1) (es ++ answer_events (resting c es) [] given)) left
+        → Applies (idling c es) [] given
+        → RunsOn (idle k es) rest (line.Taken given ∷ []) (due (k + 1) (es ++ answer_events (idling c es) [] given)) left
 
   -- step by step, with all lines that are printed on the way
   pub data Runs : RunStanding → Option (List Answer) → List RunLine → RunStanding → Option (List Answer) → Type 0 where
@@ -67,7 +67,7 @@ module _ (c : Cluster) (promotions : List Promotion) (whole : Bool) where
   abbrev pub AppliesAt : RunStanding → Answer → Type 0
   AppliesAt (due k es) given = ⊥
   AppliesAt (amid k t since) given = Applies t since given
-  AppliesAt (idle k es) given = Applies (resting c es) [] given
+  AppliesAt (idle k es) given = Applies (idling c es) [] given
 
   -- the run is over: nothing is to be done, and nothing more is said
   abbrev pub IsOver : RunStanding → Option (List Answer) → Type 0
@@ -81,32 +81,32 @@ module _ (c : Cluster) (promotions : List Promotion) (whole : Bool) where
     pub refused : ¬ AppliesAt at given
 
   -- the whole run from a journal on, of these answers: its lines, and the journal that it leaves. Where the answers are told, all of them were taken
-  pub record IsWholeRun (es : List Event) (rest : Option (List Answer)) (lines : List RunLine) (left : List Event) : Type 0 where
+  pub record IsWholeRun (es : List Event) (rest : Option (List Answer)) (lines : List RunLine) (journal_now : List Event) : Type 0 where
     pub last : RunStanding
     pub behind : Option (List Answer)
     pub steps : Runs (due 1 es) rest lines last behind
     pub over : IsOver last behind
-    pub leaves : left ≡ journal_at last
+    pub leaves : journal_now ≡ journal_at last
 
   -- the run from a journal on up to a step at which an answer is asked for: its lines, the journal there, and the answers that weren't taken. While some are
   -- left, no action has ended silently
-  pub record IsRunSoFar (es : List Event) (rest : Option (List Answer)) (lines : List RunLine) (left : List Event) (behind : Option (List Answer)) : Type 0 where
+  pub record IsRunSoFar (es : List Event) (rest : Option (List Answer)) (lines : List RunLine) (journal_now : List Event) (behind : Option (List Answer)) : Type 0 where
     pub last : RunStanding
     pub steps : Runs (due 1 es) rest lines last behind
     pub asking : IsAsking last
-    pub leaves : left ≡ journal_at last
+    pub leaves : journal_now ≡ journal_at last
 
   -- the run from a journal on, cut by the answer that doesn't apply: its lines up to there, the journal that it leaves, and the answers behind it
-  pub record IsCutRun (es : List Event) (rest : Option (List Answer)) (lines : List RunLine) (left : List Event) (given : Answer) (behind : Option (List Answer)) : Type 0 where
+  pub record IsCutRun (es : List Event) (rest : Option (List Answer)) (lines : List RunLine) (journal_now : List Event) (given : Answer) (behind : Option (List Answer)) : Type 0 where
     pub last : RunStanding
     pub unread : Option (List Answer)
     pub steps : Runs (due 1 es) rest lines last unread
     pub cut : IsCutAt last unread given behind
-    pub leaves : left ≡ journal_at last
+    pub leaves : journal_now ≡ journal_at last
 
   -- the run from a journal on up to where the transition after so many is due: its lines, the journal there, and the answers behind it
   abbrev pub IsRunUpTo : ℕ → List Event → Option (List Answer) → List RunLine → List Event → Option (List Answer) → Type 0
-  IsRunUpTo most es rest lines left behind = Runs (due 1 es) rest lines (due (most + 1) left) behind
+  IsRunUpTo most es rest lines journal_now behind = Runs (due 1 es) rest lines (due (most + 1) journal_now) behind
 
   -- at most one step, that which ends a transition: either nothing happens, or the transition has ended and its last line is printed
   pub data EndsByLine : RunStanding → List RunLine → RunStanding → Type 0 where
@@ -118,7 +118,7 @@ module _ (c : Cluster) (promotions : List Promotion) (whole : Bool) where
 
   -- the run from a journal on, stopped by the one to whom it tells its lines: those told before, those of the step at which it was stopped, and at most the
   -- line that ends the transition right after that step; the journal that it leaves, and the answers behind it
-  pub record IsStoppedRun (es : List Event) (rest : Option (List Answer)) (told call closing : List RunLine) (left : List Event) (behind : Option (List Answer)) : Type 0 where
+  pub record IsStoppedRun (es : List Event) (rest : Option (List Answer)) (told call closing : List RunLine) (journal_now : List Event) (behind : Option (List Answer)) : Type 0 where
     pub before : RunStanding
     pub next : RunStanding
     pub last : RunStanding
@@ -126,7 +126,7 @@ module _ (c : Cluster) (promotions : List Promotion) (whole : Bool) where
     pub steps : Runs (due 1 es) rest told before middle
     pub stopped : RunsOn before middle call next behind
     pub closes : EndsByLine next closing last
-    pub leaves : left ≡ journal_at last
+    pub leaves : journal_now ≡ journal_at last
 
   -- in no transition: the next, or the first, is due, or nothing is to be done
   abbrev pub IsBetween : RunStanding → Type 0

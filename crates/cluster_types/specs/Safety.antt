@@ -61,7 +61,7 @@ is_answered (Begin k a) = false
 is_answered (Ended k a Gone moment) = false
 is_answered _ = true
 
--- the events without the ends of gone actions behind which nothing else comes
+-- the events up to the last that isn't the end of a gone action
 abbrev pub without_gone : List Event → List Event
 without_gone [] = []
 without_gone (e ∷ es) = if list_all is_gone (e ∷ es) then [] else e ∷ without_gone es

@@ -13,7 +13,7 @@ use Rattle.cluster_types.specs.declared.journal.Outcome.{Outcome}
 use Rattle.cluster_types.specs.declared.journal.Outcome.TheVariants.{Code, Gone}
 use Rattle.cluster_types.specs.declared.leaf.Op.TheVariants.{Monitor}
 use Rattle.cluster_types.specs.declared.leaf.Role.TheVariants as role
-use Rattle.cluster_types.specs.Answering.{applies_after, added_by, end_event, end_events}
+use Rattle.cluster_types.specs.AnswersThatApply.{applies_after, added_by, end_event, end_events}
 use Rattle.cluster_types.specs.Each.{implies}
 use Rattle.cluster_types.specs.ExitCodes.{success, not_running, running_promoted, degraded, degraded_promoted}
 use Rattle.cluster_types.specs.Journals.{ends_number}
@@ -198,5 +198,5 @@ module _ (t : Transition) where
         → Goes whole (since ++ events) middle later left → Goes whole since rest later left
 
 -- a transition without actions: what applies in it, applies while nothing is to be done (rule of this project)
-abbrev pub resting : Cluster → List Event → Transition
-resting c es = record { cluster = c; actions = []; precedes = λ j k. false; planned_at = es }
+abbrev pub idling : Cluster → List Event → Transition
+idling c es = record { cluster = c; actions = []; precedes = λ j k. false; planned_at = es }

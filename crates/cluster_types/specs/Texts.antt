@@ -45,7 +45,7 @@ op_word Demote = codes "demote "
 op_word Monitor = codes "monitor "
 
 -- what an event of a transition, or one that comes between two, prints: a begin, an end, or the answer that it came from. What is gone with its node
--- has no line, since the node's loss has one
+-- has no line, since the node's loss has one. An end of number 0 is a report
 abbrev pub event_lines : Event → List RunLine
 event_lines (Begin k a) = line.Begin k a ∷ []
 event_lines (Ended zero (Operation Monitor r n interval role) (Code code) moment) = line.Taken (answer.Report n r interval code) ∷ []
@@ -121,9 +121,9 @@ module _ (c : Cluster) where
   pin_lines r (Some pin) = line.Pinned r pin ∷ []
   pin_lines r None = []
 
-  abbrev pub goal_line : ℕ → ℕ → Target → List RunLine
-  goal_line r n target.Nowhere = []
-  goal_line r n goal = line.Goal r n goal ∷ []
+  abbrev pub goal_lines : ℕ → ℕ → Target → List RunLine
+  goal_lines r n target.Nowhere = []
+  goal_lines r n goal = line.Goal r n goal ∷ []
 
   abbrev pub lacking_lines : ℕ → Option NoReason → List RunLine
   lacking_lines r (Some reason) = line.Lacking r reason ∷ []
@@ -133,7 +133,7 @@ module _ (c : Cluster) where
   abbrev pub leaf_lines : List (Option Pin) → (ℕ → ℕ → Target) → List (Option NoReason) → ℕ → List RunLine
   leaf_lines pins targets reasons r =
       pin_lines r (unwrap_or (slice_get pins r) None)
-      ++ flat_map (λ n. goal_line r n (targets r n)) (range_with_len 0 (length c.nodes))
+      ++ flat_map (λ n. goal_lines r n (targets r n)) (range_with_len 0 (length c.nodes))
       ++ lacking_lines r (unwrap_or (slice_get reasons r) None)
 
   -- the target lines of all leaves, in their order

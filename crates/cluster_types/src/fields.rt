@@ -1,7 +1,7 @@
 //! What a cluster says of one of its leaves or nodes, by its number. A number that the cluster doesn't have gets the plainest value.
 
 ghost use Rattle.std.specs.Prelude.{◌≡◌};
-ghost use Rattle.cluster_types.specs.Answering.{role_of_interval};
+ghost use Rattle.cluster_types.specs.AnswersThatApply.{role_of_interval};
 ghost use Rattle.cluster_types.specs.Fields as fields;
 ghost use Rattle.cluster_types.specs.NodeStates.{is_standby};
 

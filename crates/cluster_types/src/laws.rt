@@ -5,19 +5,19 @@ ghost use Rattle.std.specs.List.{list_all};
 ghost use Rattle.cluster_types.specs.declared.placement.Decision.{Decision as DecisionOf};
 ghost use Rattle.cluster_types.specs.Held.{Held};
 ghost use Rattle.cluster_types.specs.LeastSets.{IsClosedUnderCycling, IsClosedUnderHolding};
-ghost use Rattle.cluster_types.specs.Needed as cycling;
+ghost use Rattle.cluster_types.specs.NeededActions as cycling;
 ghost use Rattle.cluster_types.specs.Numbers.{AreNumbered};
 ghost use Rattle.cluster_types.specs.Precedence.{must_precede};
 ghost use Rattle.cluster_types.specs.Precedes.{Precedes};
 ghost use Rattle.cluster_types.specs.Safety.{IsEager, PredecessorsFirst};
-ghost use Rattle.cluster_types.specs.Steps.{Applies, EndsSilently, Goes, Transition, ended, answer_events, in_flight_by_number, journal, resting, silent_code, silent_end};
+ghost use Rattle.cluster_types.specs.Steps.{Applies, EndsSilently, Goes, Transition, ended, answer_events, in_flight_by_number, journal, idling, silent_code, silent_end};
 ghost use Rattle.cluster_types.specs.declared.journal.Outcome.TheVariants as outcome;
 ghost use Rattle.cluster_types.specs.Tables.{Targets, is_somewhere, load_of, with_cell};
 ghost use Rattle.cluster_types.specs.Failures.{is_fail_stopped};
 ghost use Rattle.cluster_types.specs.NodeStates.{node_state};
-ghost use Rattle.cluster_types.specs.Unpacked.{cell_at, states_of};
+ghost use Rattle.cluster_types.specs.UnpackedStates.{cell_at, states_of};
 ghost use Rattle.cluster_types.specs.declared.placement.Target.{Target as TargetOf};
-ghost use Rattle.cluster_types.specs.Journals.{NodeWord, Orderly, first_events, in_flight_by_begin, is_history_event, moment_of};
+ghost use Rattle.cluster_types.specs.Journals.{NodeSaid, Orderly, first_events, in_flight_by_begin, is_history_event, moment_of};
 ghost use Rattle.cluster_types.specs.Graphs.{GraphOf, IsBefore, IsGraph, LeadUpward, is_before};
 ghost use Rattle.edges.specs.Loops.{EndsWithin};
 ghost use Rattle.cluster_types.specs.May.{closes, closes_promoted, is_left_promoted, may_be_running, may_be_promoted, opens, opens_promoted};
@@ -46,13 +46,13 @@ pub fn promoted_may_run()
 
 /// The first journal has nothing in flight, whatever the status tells.
 pub fn first_journal_has_nothing_in_flight()
-    ensures { (c : Cluster) (history : List Event) (words : List NodeWord) (quorum : Bool) (now : ℕ)
+    ensures { (c : Cluster) (history : List Event) (words : List NodeSaid) (quorum : Bool) (now : ℕ)
         → list_all (is_history_event (length c.nodes)) history ≡ true → in_flight_by_begin (first_events c history words quorum now) ≡ [] }
 {}
 
 /// The first journal is in order: whatever the status tells of a node, the node has joined before it.
 pub fn first_journal_is_in_order()
-    ensures { (c : Cluster) (history : List Event) (words : List NodeWord) (quorum : Bool) (now : ℕ)
+    ensures { (c : Cluster) (history : List Event) (words : List NodeSaid) (quorum : Bool) (now : ℕ)
         → list_all (is_history_event (length c.nodes)) history ≡ true → Orderly (first_events c history words quorum now) }
 {}
 
@@ -142,8 +142,8 @@ pub fn loads_after_a_cell()
 pub fn moments_stay_below_their_limit()
     ensures steps { (t : Transition) (whole : Bool) (rest left : Option (List Answer)) (since later : List Event) → Goes t whole since rest later left
         → moment_of (journal t since) < 2 ^ 40 → moment_of (journal t later) < 2 ^ 40 }
-    ensures idle { (c : Cluster) (es : List Event) (given : Answer) → Applies (resting c es) [] given → moment_of es < 2 ^ 40
-        → moment_of (es ++ answer_events (resting c es) [] given) < 2 ^ 40 }
+    ensures idle { (c : Cluster) (es : List Event) (given : Answer) → Applies (idling c es) [] given → moment_of es < 2 ^ 40
+        → moment_of (es ++ answer_events (idling c es) [] given) < 2 ^ 40 }
 {}
 
 /// When nothing more is said, it is the first in flight that ends.

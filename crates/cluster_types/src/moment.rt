@@ -1,7 +1,7 @@
 //! The seconds that go by, and the moment at the end of a journal.
 
 ghost use Rattle.std.specs.Prelude.{◌≡◌};
-ghost use Rattle.cluster_types.specs.Answering.{seconds_in};
+ghost use Rattle.cluster_types.specs.AnswersThatApply.{seconds_in};
 ghost use Rattle.cluster_types.specs.Journals as journals;
 
 use crate::journal::{Answer, Event};

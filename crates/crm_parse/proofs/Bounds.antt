@@ -6,7 +6,7 @@ use Rattle.faults.specs.declared.stop.Stop.{Stop}
 use Rattle.crm_parse.specs.declared.rule_form.RuleForm.{RuleForm}
 use Rattle.crm_parse.specs.Location.{with_rule, with_rules}
 use Rattle.crm_parse.specs.Reading.{Words}
-use Rattle.faults.specs.Reading.{IsCause}
+use Rattle.faults.specs.Inner.Reading.{IsCause}
 use Rattle.faults.proofs.Steps.{cause_of_whole}
 use Rattle.crm_parse.specs.Rules.{joiner_at, with_joined, with_tests}
 

@@ -28,7 +28,7 @@ use Rattle.crm_parse.specs.Grammar.ResourceForms.{CloneSays, GroupSays, MemberSa
 use Rattle.crm_parse.specs.Grammar.SettingsForm.{SettingsSay, some_settings}
 use Rattle.crm_parse.specs.OrderActions.{action_after, with_actions}
 use Rattle.crm_parse.specs.Reading.{Words}
-use Rattle.crm_parse.specs.ReadForms.{IsRead}
+use Rattle.crm_parse.specs.Inner.ReadForms.{IsRead}
 use Rattle.crm_parse.specs.Statements.{finished, statements_of}
 use Rattle.crm_parse.proofs.Grammar.LineRelated.{line-is_said}
 use Rattle.crm_parse.proofs.LineForms.{DraftHas, statements-have}

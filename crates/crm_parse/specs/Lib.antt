@@ -1,3 +1,4 @@
+pub mod Inner
 pub mod Causes
 pub mod Texts
 pub mod Values
@@ -5,7 +6,6 @@ pub mod Marks
 pub mod Reading
 pub mod Keys
 pub mod Pairs
-pub mod KeySets
 pub mod Operations
 pub mod Sections
 pub mod Node
@@ -16,12 +16,9 @@ pub mod Order
 pub mod Rules
 pub mod Location
 pub mod Settings
-pub mod GivenKeys
 pub mod OrderActions
 pub mod Statements
-pub mod Named
 pub mod Monitors
-pub mod ReadForms
 pub mod WordTexts
 pub mod Grammar
 pub mod FirstFaults

@@ -1,8 +1,6 @@
 -- The recurring monitors of a primitive: no more than 8, each of an interval of its own (rule of this project).
-use Rattle.std.specs.Prelude.{ℕ, ◌≢◌, ◌<◌, ◌≤◌, if◌then◌else◌, List, [], ◌∷◌, length, AllPairs}
+use Rattle.std.specs.Prelude.{ℕ, ◌≢◌, ◌<◌, ◌≤◌, if◌then◌else◌, List, ◌∷◌, length, AllPairs, []}
 use Rattle.std.specs.List.{AllByRecursion, flat_map}
-use Rattle.crm_parse.specs.declared.form.Form.{Form}
-use Rattle.crm_parse.specs.declared.form.Form.TheVariants as form
 use Rattle.crm_parse.specs.declared.pair.Operation.{Operation}
 use Rattle.crm_parse.specs.Operations.{interval_of, recurs}
 
@@ -19,8 +17,3 @@ pub record AreFew (intervals : List ℕ) : Type 0 where
   pub few : length intervals ≤ 8
   pub above : AllByRecursion (λ interval. 0 < interval) intervals
   pub apart : AllPairs (λ (one other : ℕ). one ≢ other) intervals
-
--- the recurring monitors of a statement may stand beside each other
-abbrev pub KeepsMonitors : Form → Type 0
-KeepsMonitors (form.Primitive id agent description params meta utilization operations ops) = AreFew (recurring ops)
-KeepsMonitors _ = Unit {0}

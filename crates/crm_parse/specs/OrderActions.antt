@@ -9,7 +9,7 @@ use Rattle.crm_parse.specs.declared.words.ActionWord.{ActionWord}
 use Rattle.crm_parse.specs.declared.words.ActionWord.TheVariants.{Start, Stop, Promote, Demote}
 use Rattle.crm_parse.specs.Reading.{Words}
 
--- the action of a resource without a promoted role in the place of one
+-- what a resource without a promoted role does in the place of this action
 abbrev pub unpromoted : ActionWord → ActionWord
 unpromoted Promote = Start
 unpromoted Demote = Stop

@@ -2,7 +2,7 @@
 
 ghost use Rattle.std.specs.Prelude.{◌≡◌};
 ghost use Rattle.crm_parse.specs.Colocation.{before_colon, colocation_at, is_node_attribute, no_attribute, no_third, side_at, side_in, side_of, side_started};
-ghost use Rattle.faults.specs.Reading.{GivesInLine};
+ghost use Rattle.faults.specs.Inner.Reading.{GivesInLine};
 
 use crate::fault::Stop;
 use crate::reading::{

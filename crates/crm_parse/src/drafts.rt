@@ -21,7 +21,7 @@ pub(crate) struct Drafts {
 impl Model for Drafts {
     ghost use Rattle.std.specs.Prelude.{List};
     ghost use Rattle.crm_parse.specs.declared.draft.DraftStatement.{DraftStatement};
-    ghost use Rattle.crm_parse.specs.GivenKeys.{HasSettingsOf};
+    ghost use Rattle.crm_parse.specs.Inner.GivenKeys.{HasSettingsOf};
 
     ghost Value = { List DraftStatement };
 

@@ -1,7 +1,8 @@
 //! The expression of a rule: tests that are joined.
 
 ghost use Rattle.std.specs.Prelude.{◌≡◌, ◌≤◌, ◌<◌, ◌++◌, ◌∷◌, [], length, not, IfOk};
-ghost use Rattle.faults.specs.Reading.{GivesInLine, Reads};
+ghost use Rattle.faults.specs.Reading.{Reads};
+ghost use Rattle.faults.specs.Inner.Reading.{GivesInLine};
 ghost use Rattle.crm_parse.specs.Rules.{attribute_at, comparable, compare_of, comparison_of, date_at, date_test_at, date_test_of, date_test_text, dates_at, defined_at, end_date_at, end_text, expression_at, filled, is_number_kind, joined_alike, joiner_at, joiner_of, read_moment, noted_at, start_at, test_after, test_at, type_of, typed, untyped, with_all_tests, with_joined, with_test};
 
 use crate::ParseCause;

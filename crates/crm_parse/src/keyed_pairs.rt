@@ -28,7 +28,7 @@ impl Model for KeyedPairs {
     ghost use Rattle.std.specs.List.{list_any};
     ghost use Rattle.crm_parse.specs.declared.pair.Kv.{Kv};
     ghost use Rattle.crm_parse.specs.Keys.{is_promoted_max};
-    ghost use Rattle.crm_parse.specs.KeySets.{HasKeysOf};
+    ghost use Rattle.crm_parse.specs.Inner.KeySets.{HasKeysOf};
 
     ghost Value = { List Kv };
 

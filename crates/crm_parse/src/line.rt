@@ -1,7 +1,7 @@
 //! The statement of one line.
 
 ghost use Rattle.std.specs.Prelude.{◌≡◌, Result, Ok};
-ghost use Rattle.faults.specs.Reading.{GivesInLine};
+ghost use Rattle.faults.specs.Inner.Reading.{GivesInLine};
 ghost use Rattle.crm_parse.specs.declared.fault.ParseCause.{ParseCause as Cause};
 ghost use Rattle.crm_parse.specs.declared.form.Form.{Form as Said};
 ghost use Rattle.crm_parse.specs.declared.form.Form.TheVariants as form;

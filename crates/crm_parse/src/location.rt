@@ -3,7 +3,8 @@
 ghost use Rattle.std.specs.Prelude.{◌≡◌};
 ghost use Rattle.std.specs.Option.{option_copied};
 ghost use Rattle.crm_parse.specs.Location.{begins_rule, discovery_at, discovery_in, location_at, place_at, plain_at, resource_at, role_at, ruled_at};
-ghost use Rattle.faults.specs.Reading.{GivesInLine, Reads};
+ghost use Rattle.faults.specs.Reading.{Reads};
+ghost use Rattle.faults.specs.Inner.Reading.{GivesInLine};
 
 use crate::fault::Stop;
 use crate::reading::{end_at, name_at, prefixed_at, resource_of, score_of, word_at};

@@ -2,7 +2,7 @@
 
 ghost use Rattle.std.specs.Prelude.{◌≡◌};
 ghost use Rattle.crm_parse.specs.Node.{node_statement_at};
-ghost use Rattle.faults.specs.Reading.{GivesInLine};
+ghost use Rattle.faults.specs.Inner.Reading.{GivesInLine};
 
 use crate::Form;
 use crate::fault::Stop;

@@ -2,7 +2,8 @@
 
 ghost use Rattle.std.specs.Prelude.{◌≡◌};
 ghost use Rattle.crm_parse.specs.Pairs.{kv_of, pair_of, with_pair, with_pairs, with_section};
-ghost use Rattle.faults.specs.Reading.{GivesInLine, Reads};
+ghost use Rattle.faults.specs.Reading.{Reads};
+ghost use Rattle.faults.specs.Inner.Reading.{GivesInLine};
 
 use crate::fault::Stop;
 use crate::keyed_pairs::KeyedPairs;

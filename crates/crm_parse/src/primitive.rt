@@ -4,7 +4,7 @@ ghost use Rattle.std.specs.Prelude.{◌≡◌, ◌==◌, length, not, Ok};
 ghost use Rattle.std.specs.List.{list_all};
 ghost use Rattle.crm_parse.specs.declared.form.Form.TheVariants as form;
 ghost use Rattle.crm_parse.specs.Primitive.{agent_of, colon_parts, is_agent, is_template, primitive_at, whole_agent};
-ghost use Rattle.faults.specs.Reading.{GivesInLine};
+ghost use Rattle.faults.specs.Inner.Reading.{GivesInLine};
 
 use crate::fault::Stop;
 use crate::owner::Owner;

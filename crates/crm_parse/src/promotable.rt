@@ -18,7 +18,7 @@ pub(crate) struct Promotable {
 
 impl Model for Promotable {
     ghost use Rattle.std.specs.Prelude.{List, ℕ};
-    ghost use Rattle.crm_parse.specs.KeySets.{HasNamesOf};
+    ghost use Rattle.crm_parse.specs.Inner.KeySets.{HasNamesOf};
 
     ghost Value = { List (List ℕ) };
 

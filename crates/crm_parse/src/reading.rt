@@ -5,7 +5,8 @@ ghost use Rattle.std.specs.List.{list_all, position_or_len};
 ghost use Rattle.std.specs.Option.{option_copied};
 ghost use Rattle.crm_lex.specs.Names.{is_name, is_name_byte};
 ghost use Rattle.crm_parse.specs.Reading.{begins_set, colon_at, description_at, end_at, given_at, name_at, name_of, prefixed_at, resource_of, rule_role_of, score_of, some_name, supported, next_word_in};
-ghost use Rattle.faults.specs.Reading.{GivesInLine, Reads};
+ghost use Rattle.faults.specs.Reading.{Reads};
+ghost use Rattle.faults.specs.Inner.Reading.{GivesInLine};
 ghost use Rattle.crm_parse.specs.Texts.{after, before, cut_at, byte_place};
 
 use crate::fault::Stop;

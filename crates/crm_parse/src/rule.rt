@@ -3,7 +3,8 @@
 ghost use Rattle.std.specs.Prelude.{◌≡◌, ◌≤◌, ◌<◌, [], length, IfOk};
 ghost use Rattle.std.specs.Option.{option_copied};
 ghost use Rattle.crm_parse.specs.Location.{all_of, either_at, rule_at, rule_id_at, rule_role_at, rule_score_of, some_role, with_rule, with_rules};
-ghost use Rattle.faults.specs.Reading.{GivesInLine, Reads};
+ghost use Rattle.faults.specs.Reading.{Reads};
+ghost use Rattle.faults.specs.Inner.Reading.{GivesInLine};
 
 use crate::accept::when;
 use crate::expression::expression_at;

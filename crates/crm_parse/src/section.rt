@@ -1,7 +1,7 @@
 //! The sections of a statement.
 
 ghost use Rattle.std.specs.Prelude.{◌≡◌, ◌==◌, ◌≤◌, length, take, drop, [], Some, false, true};
-ghost use Rattle.faults.specs.Reading.{GivesInLine};
+ghost use Rattle.faults.specs.Inner.Reading.{GivesInLine};
 ghost use Rattle.crm_parse.specs.Sections.{allowed, allows_section, cut_into_sections, is_section, may_follow, no_sections, place_of, section_of, section_word, sections_at, sections_from, takes_name, with_part, with_words};
 
 use crate::fault::Stop;

@@ -4,7 +4,7 @@ ghost use Rattle.std.specs.Prelude.{◌≡◌, ◌||◌, ℕ, List, false, OnOk}
 ghost use Rattle.std.specs.List.{list_any};
 ghost use Rattle.crm_lex.specs.Names.{is};
 ghost use Rattle.crm_parse.specs.declared.words.SettingsWord.{SettingsWord as Kind};
-ghost use Rattle.crm_parse.specs.GivenKeys.{gives, AddsSettings};
+ghost use Rattle.crm_parse.specs.Inner.GivenKeys.{gives, AddsSettings};
 ghost use Rattle.crm_lex.specs.NameSets.{has_name};
 ghost use Rattle.crm_parse.specs.Settings.{is_same_settings, sets};
 

@@ -1,7 +1,7 @@
 //! `property [SET-ID:] KEY=VALUE..`, and `rsc_defaults` and `op_defaults` alike
 
 ghost use Rattle.std.specs.Prelude.{◌≡◌};
-ghost use Rattle.faults.specs.Reading.{GivesInLine};
+ghost use Rattle.faults.specs.Inner.Reading.{GivesInLine};
 ghost use Rattle.crm_parse.specs.Settings.{begins_pair, is_pair, set_at, settings_at, settings_pairs, settings_place, with_setting, with_settings};
 
 use crate::drafts::Drafts;

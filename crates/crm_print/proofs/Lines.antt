@@ -6,7 +6,8 @@ use Rattle.crm_lex.specs.Words.{has_pieces, is_gap, is_inside, is_open, letters,
 use Rattle.crm_lex.specs.declared.quoting.Piece.{Piece}
 use Rattle.crm_lex.specs.declared.quoting.Piece.TheVariants.{Gap, Mark, Letter}
 use Rattle.crm_lex.specs.declared.quoting.Place.TheVariants.{Outside}
-use Rattle.crm_print.specs.Quoting.{Item, escaped, is_plain, item_text, item_word, items_line, quoted, spaced}
+use Rattle.crm_print.specs.Quoting.{Item, escaped, is_plain, item_text, items_line, quoted, spaced}
+use Rattle.crm_print.specs.Inner.Quoting.{item_word}
 use Rattle.crm_print.proofs.WrittenText.{Spells, item-spells}
 
 -- an item has a part

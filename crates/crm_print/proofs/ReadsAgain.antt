@@ -13,9 +13,10 @@ use Rattle.crm_print.proofs.Clean.{Clean}
 use Rattle.crm_print.proofs.CleanLines.{CleanLine, CleanStatement, statements-clean}
 use Rattle.crm_print.proofs.LinesAgain.{statement_words, statements-again}
 use Rattle.crm_print.proofs.SomeWords.{HasWords, has_words, statements-words}
-use Rattle.crm_print.specs.Again.{IsComment, ReadsAs, forms_of, has_short_lines}
+use Rattle.crm_print.specs.PrintedAgain.{IsComment, ReadsAs, forms_of, has_short_lines}
 use Rattle.crm_print.specs.Items.{items_of}
-use Rattle.crm_print.specs.Quoting.{Item, item_word, items_line}
+use Rattle.crm_print.specs.Quoting.{Item, items_line}
+use Rattle.crm_print.specs.Inner.Quoting.{item_word}
 use Rattle.crm_print.specs.Text.{canonical_line, canonical_text, ended_line}
 use Rattle.crm_print.proofs.CleanItems.{items-clean}
 use Rattle.crm_print.proofs.CleanReading.{clean-reads}

@@ -10,8 +10,9 @@ use Rattle.crm_lex.specs.LogicalLines.{faults, is_control, line_text, with_joint
 use Rattle.crm_lex.specs.Reading.{faults_from, first_lex_fault, reads, row, rows_from}
 use Rattle.crm_lex.specs.Words.{is_open, words_of}
 use Rattle.crm_lex.specs.declared.line.Line.{Line}
-use Rattle.crm_print.specs.Again.{IsComment}
-use Rattle.crm_print.specs.Quoting.{Item, item_word, items_line}
+use Rattle.crm_print.specs.PrintedAgain.{IsComment}
+use Rattle.crm_print.specs.Quoting.{Item, items_line}
+use Rattle.crm_print.specs.Inner.Quoting.{item_word}
 use Rattle.crm_print.proofs.Clean.{Clean, EachClean}
 use Rattle.crm_print.proofs.CleanTexts.{clean_line, line_begins, line_closes}
 use Rattle.crm_print.proofs.Lines.{is_filled, line-closed, line-words}

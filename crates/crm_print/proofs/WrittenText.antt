@@ -6,7 +6,8 @@ use Rattle.crm_lex.specs.declared.quoting.Piece.{Piece}
 use Rattle.crm_lex.specs.declared.quoting.Piece.TheVariants.{Gap, Mark, Letter}
 use Rattle.crm_lex.specs.declared.quoting.Place.{Place}
 use Rattle.crm_lex.specs.declared.quoting.Place.TheVariants.{Outside, Double}
-use Rattle.crm_print.specs.Quoting.{Item, begins_with_hash, escaped, is_plain, item_text, item_word, needs_quotes, quoted}
+use Rattle.crm_print.specs.Quoting.{Item, begins_with_hash, escaped, is_plain, item_text, needs_quotes, quoted}
+use Rattle.crm_print.specs.Inner.Quoting.{item_word}
 
 -- a text that stands at one place, with a place behind it, has these pieces whatever follows: they have no gap, and their letters are the word
 pub record Spells (place behind : Place) (text word : List ℕ) : Type 0 where

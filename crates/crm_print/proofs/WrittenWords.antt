@@ -28,8 +28,9 @@ use Rattle.crm_parse.proofs.PairWords.{pair_word}
 use Rattle.crm_parse.proofs.LocationRead.{discovery_words}
 use Rattle.crm_print.proofs.Written.{located_words, meta_words, operation_words, role_words, ruled_words, score_word, section_words, side_word, step_word, written}
 use Rattle.crm_print.specs.Items.{discovery, given_id, in_role, items_of, labelled, location_items, noted, noted_role, operation_items, pair, parted, rule, section, side, step, with_colon, with_meta, word}
-use Rattle.crm_print.specs.Quoting.{Item, item_word}
-use Rattle.crm_print.specs.Text.{canonical_words}
+use Rattle.crm_print.specs.Quoting.{Item}
+use Rattle.crm_print.specs.Inner.Quoting.{item_word}
+use Rattle.crm_print.specs.Inner.Text.{canonical_words}
 
 -- the words of some items
 abbrev pub spelled : List Item → Words

@@ -1,4 +1,5 @@
+pub mod Inner
 pub mod Quoting
 pub mod Items
 pub mod Text
-pub mod Again
+pub mod PrintedAgain

@@ -1,6 +1,6 @@
 -- How the words of a canonical text are written (crmsh manual, quoting; when a word is quoted is a rule of this project).
-use Rattle.std.specs.Prelude.{ℕ, ◌==◌, Bool, false, not, ◌&&◌, ◌||◌, if◌then◌else◌, List, [], ◌∷◌, ◌++◌, length}
-use Rattle.std.specs.List.{concat, flat_map, list_any}
+use Rattle.std.specs.Prelude.{ℕ, ◌==◌, Bool, false, not, ◌&&◌, ◌||◌, if◌then◌else◌, List, ◌∷◌, ◌++◌, length, []}
+use Rattle.std.specs.List.{flat_map, list_any}
 use Rattle.crm_lex.specs.RawLines.{is_blank}
 
 -- a byte that a word without quotes doesn't have: a blank, a quote or a backslash
@@ -30,10 +30,6 @@ Item = List (List ℕ)
 -- how an item is written
 abbrev pub item_text : Item → List ℕ
 item_text item = flat_map quoted item
-
--- the word that an item is read as
-abbrev pub item_word : Item → List ℕ
-item_word item = concat item
 
 -- an item behind a blank
 abbrev pub spaced : Item → List ℕ

@@ -1,15 +1,11 @@
 -- The canonical text of a configuration: a line for each statement.
-use Rattle.std.specs.Prelude.{ℕ, List, [], ◌∷◌, ◌++◌, map}
+use Rattle.std.specs.Prelude.{ℕ, List, ◌∷◌, ◌++◌, []}
 use Rattle.std.specs.List.{flat_map}
 use Rattle.crm_parse.specs.declared.form.Form.{Form}
 use Rattle.crm_parse.specs.declared.statement.Crm.{Crm}
 use Rattle.crm_parse.specs.declared.statement.Statement.{Statement}
 use Rattle.crm_print.specs.Items.{items_of}
-use Rattle.crm_print.specs.Quoting.{item_word, items_line}
-
--- the words that the canonical line of a statement is read as
-abbrev pub canonical_words : Form → List (List ℕ)
-canonical_words form = map item_word (items_of form)
+use Rattle.crm_print.specs.Quoting.{items_line}
 
 -- the canonical line of a statement
 abbrev pub canonical_line : Form → List ℕ

@@ -5,7 +5,7 @@ ghost use Rattle.crm_lex.specs.declared.line.Line.{Line as LineOf};
 ghost use Rattle.crm_lex.specs.Reading.{reads};
 ghost use Rattle.crm_parse.specs.declared.statement.Crm.{Crm as CrmOf};
 ghost use Rattle.crm_parse.specs.Statements.{statements_of};
-ghost use Rattle.crm_print.specs.Again.{IsComment, ReadsAs, forms_of, has_short_lines};
+ghost use Rattle.crm_print.specs.PrintedAgain.{IsComment, ReadsAs, forms_of, has_short_lines};
 ghost use Rattle.crm_print.specs.Text.{canonical_text};
 
 /// What is printed reads again: the canonical text of the statements that are read of a text, or of its first lines, is read as the same

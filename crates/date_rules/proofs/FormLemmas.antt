@@ -5,7 +5,8 @@ use Rattle.std.specs.List.{list_all, zip}
 use Rattle.std.proofs.lemmas.List.{take_all}
 use Rattle.std.proofs.lemmas.Bool.Decides.{nat_tests}
 use Rattle.std.proofs.lemmas.Bool.{and_parts}
-use Rattle.date_rules.specs.Digits.{fits, has_form, HasTwoDigits}
+use Rattle.date_rules.specs.Digits.{fits, has_form}
+use Rattle.date_rules.specs.Inner.Digits.{HasTwoDigits}
 
 -- a byte that fits the mark 0 is a digit
 fits_digit : (mark byte : ℕ) → fits mark byte ≡ true → mark ≡ 48 → IsAsciiDigit byte

@@ -3,7 +3,8 @@ use Rattle.std.proofs.Common.{◌≡◌, ℕ, ◌+◌, ◌<◌, true, false, Lis
 use Rattle.std.specs.Option.{option_and_then, option_map}
 use Rattle.std.specs.Prelude.{codes}
 use Rattle.lemmas.proofs.Booleans.{either}
-use Rattle.date_rules.specs.Digits.{has_form, HasTwoDigits}
+use Rattle.date_rules.specs.Digits.{has_form}
+use Rattle.date_rules.specs.Inner.Digits.{HasTwoDigits}
 use Rattle.date_rules.specs.Instant.{is_empty, midnight, is_time, time_of_day, offset, after_midnight, instant}
 use Rattle.date_rules.proofs.FormLemmas.{has_two_digits, has_form-short}
 

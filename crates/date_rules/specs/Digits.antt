@@ -1,6 +1,6 @@
 -- Texts with digits at fixed places.
-use Rattle.std.specs.Prelude.{ℕ, ◌+◌, ◌-◌, ◌*◌, ◌<◌, ◌&&◌, ◌==◌, Bool, if◌then◌else◌, List, length, slice_index}
-use Rattle.std.specs.Char.{is_ascii_digit, IsAsciiDigit}
+use Rattle.std.specs.Prelude.{ℕ, ◌+◌, ◌-◌, ◌*◌, ◌&&◌, ◌==◌, Bool, if◌then◌else◌, List, length, slice_index}
+use Rattle.std.specs.Char.{is_ascii_digit}
 use Rattle.std.specs.List.{list_all, zip}
 
 -- a byte fits a mark: a digit the mark 0, and else the byte that the mark is
@@ -14,9 +14,3 @@ has_form form text = (length form == length text) && list_all (λ (pair : ℕ ×
 -- the number that the two digits from a place on write
 abbrev pub two_digits : List ℕ → ℕ → ℕ
 two_digits text place = 10 * (slice_index text place - 48) + (slice_index text (place + 1) - 48)
-
--- two digits stand there
-pub record HasTwoDigits (text : List ℕ) (place : ℕ) : Type 0 where
-  pub within : place + 1 < length text
-  pub first : IsAsciiDigit (slice_index text place)
-  pub second : IsAsciiDigit (slice_index text (place + 1))

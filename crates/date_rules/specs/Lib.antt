@@ -1,3 +1,4 @@
+pub mod Inner
 pub mod Attribute
 pub mod WholeNumber
 pub mod Compare

@@ -1,6 +1,7 @@
 ghost use Rattle.std.specs.Prelude.{◌≡◌, ◌≤◌, ℕ};
 ghost use Rattle.std.specs.List.{list_all, zip};
-ghost use Rattle.date_rules.specs.Digits.{fits, has_form, two_digits, HasTwoDigits};
+ghost use Rattle.date_rules.specs.Digits.{fits, has_form, two_digits};
+ghost use Rattle.date_rules.specs.Inner.Digits.{HasTwoDigits};
 
 /// Whether the text is as long as the form, with a digit where the form has a 0, and else the form's byte.
 #[tactic(auto, unfolding(crate::specs::Digits::has_form))]

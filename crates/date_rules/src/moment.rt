@@ -1,6 +1,6 @@
 ghost use Rattle.std.specs.Prelude.{◌≡◌, ◌*◌, pos, neg_ℤ, IfSome};
 ghost use Rattle.jiff_core.specs.Calendar.{IsWithin};
-ghost use Rattle.date_rules.specs.Digits.{HasTwoDigits};
+ghost use Rattle.date_rules.specs.Inner.Digits.{HasTwoDigits};
 ghost use Rattle.date_rules.specs.Instant.{clock_seconds, midnight, is_time, time_of_day, offset_seconds, offset, after_midnight, instant};
 
 use crate::calendar::day_number;

@@ -11,7 +11,7 @@ use Rattle.cluster_types.specs.declared.journal.Promotion.{Promotion}
 use Rattle.cluster_types.specs.declared.placement.Decision.{Decision}
 use Rattle.cluster_types.specs.Choice.{cap_of, is_candidate, is_chosen, is_better, total_on}
 use Rattle.cluster_types.specs.Tables.{Targets, load_of}
-use Rattle.decision_account.specs.Better.{IsBetter, by_load, by_place, by_total}
+use Rattle.decision_account.specs.BetterNodes.{IsBetter, by_load, by_place, by_total}
 use Rattle.decision_account.proofs.TrueVerdicts.{goes_before}
 
 module _ (c : Cluster) (es : List Event) (ps : List Promotion) (table : Targets) (d : Decision) where

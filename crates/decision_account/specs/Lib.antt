@@ -3,4 +3,4 @@ pub mod Verdicts
 pub mod Holders
 pub mod Accounts
 pub mod Grounds
-pub mod Better
+pub mod BetterNodes

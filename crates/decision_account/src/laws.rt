@@ -19,7 +19,7 @@ ghost use Rattle.cluster_types.specs.Tables.{Targets};
 ghost use Rattle.cluster_types.specs.Texts.{scores_text};
 ghost use Rattle.cluster_types.specs.Valid.{IsValid};
 ghost use Rattle.decision_account.specs.Accounts.{IsWhyText, is_scores_line, why_lines, why_text};
-ghost use Rattle.decision_account.specs.Better.{IsBetter};
+ghost use Rattle.decision_account.specs.BetterNodes.{IsBetter};
 ghost use Rattle.decision_account.specs.Grounds.{IsTrueVerdict};
 ghost use Rattle.decision_account.specs.Holders.{held_decision, holder_of, misses_first};
 ghost use Rattle.decision_account.specs.Parts.{base_parts, part_scores, preference_parts, without_zeros};

@@ -8,7 +8,7 @@ use Rattle.edges.specs.declared.edge.Edge.{Edge}
 use Rattle.edges.specs.Loops.{EndsWithin, HasNoLoop}
 use Rattle.edges.specs.Sources.{is_in_list, sources_of}
 use Rattle.edges.specs.Inner.Clearing.{AreCleared, IsBackward}
-use Rattle.edges.specs.Longest.{above, longest}
+use Rattle.edges.specs.LongestChains.{above, longest}
 use Rattle.edges.proofs.Endings.{one_way}
 use Rattle.edges.proofs.Entering.{Enters, enters_of}
 use Rattle.edges.proofs.Longest.{above_alike, longest_are_heights, longest_bounded}

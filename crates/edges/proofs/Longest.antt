@@ -7,7 +7,7 @@ use Rattle.std.proofs.lemmas.List.Sums.{count_by-le-length}
 use Rattle.edges.specs.declared.edge.Edge.{Edge}
 use Rattle.edges.specs.Loops.{EndsWithin, HasNoLoop, leads_within}
 use Rattle.edges.specs.Sources.{sources_of}
-use Rattle.edges.specs.Longest.{AreHeights, above, longest, longest_within}
+use Rattle.edges.specs.LongestChains.{AreHeights, above, longest, longest_within}
 use Rattle.lemmas.proofs.Members.{at_head, head_or_rest, in_none, in_rest}
 use Rattle.edges.proofs.Entering.{Enters, enters_of, source_of_edge}
 use Rattle.edges.proofs.Heights.{height, rises}

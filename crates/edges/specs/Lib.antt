@@ -2,5 +2,5 @@ pub mod Inner
 pub mod Chains
 pub mod Loops
 pub mod Sources
-pub mod Longest
+pub mod LongestChains
 pub mod Rows

@@ -5,10 +5,6 @@ use Rattle.edges.specs.declared.edge.Edge.{Edge}
 use Rattle.edges.specs.declared.side.Side.{Side}
 use Rattle.edges.specs.declared.side.Side.TheVariants.{Before, After}
 
--- what is read where no edge is
-abbrev pub no_edge : Edge
-no_edge = record { before = 0; after = 0 }
-
 -- the position at this end of an edge
 abbrev pub end_of : Side → Edge → ℕ
 end_of Before e = e.before

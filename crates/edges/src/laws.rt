@@ -2,7 +2,7 @@
 
 ghost use Rattle.std.specs.Prelude.{◌≡◌, ◌↔◌, true, ◌⊎◌, ℕ, List, Option, Contains};
 ghost use Rattle.edges.specs.declared.edge.Edge.{Edge};
-ghost use Rattle.edges.specs.Longest.{AreHeights, longest};
+ghost use Rattle.edges.specs.LongestChains.{AreHeights, longest};
 ghost use Rattle.edges.specs.Loops.{EndsWithin, HasLoop, HasNoLoop, HasShortLoop, IsFirstLoop, Leads, RiseSomehow, leads_within};
 
 /// Where edges have a loop, however long, some loop has no more edges than there are positions.

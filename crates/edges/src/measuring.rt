@@ -1,6 +1,6 @@
 ghost use Rattle.std.specs.Prelude.{◌≡◌, ◌≤◌, ◌<◌, ℕ, IfOk, [], length, slice_index_or, Contains};
 ghost use Rattle.edges.specs.Loops.{EndsWithin, HasLoop, HasNoLoop};
-ghost use Rattle.edges.specs.Longest as longest;
+ghost use Rattle.edges.specs.LongestChains as longest;
 
 use crate::clearing::{backward_order, is_loop_free};
 use crate::edge::Edge;

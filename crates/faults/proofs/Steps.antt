@@ -4,7 +4,8 @@ use Rattle.faults.specs.declared.fault.Fault.{Fault}
 use Rattle.faults.specs.declared.fault.Fault.TheVariants.{At, NoMemory}
 use Rattle.faults.specs.declared.stop.Stop.{Stop}
 use Rattle.faults.specs.declared.stop.Stop.TheVariants as stop
-use Rattle.faults.specs.Reading.{◌>>=◌, unless, on_line, faulting, UnlessMemory, IsCause}
+use Rattle.faults.specs.Reading.{◌>>=◌, unless, on_line, faulting, UnlessMemory}
+use Rattle.faults.specs.Inner.Reading.{IsCause}
 
 -- both steps read
 pub bind-ok : {A B E : Type 0} (r : Result A E) (f : A → Result B E) (y : B) → (r >>= f) ≡ Ok y → (x : A) × (r ≡ Ok x) × (f x ≡ Ok y)

@@ -65,12 +65,3 @@ IsAsSaid says (Err fault) = UnlessMemory fault (says (Err fault))
 -- the same of a definition that computes: what was returned, seen by view, is what is read
 abbrev pub Gives : {A B C : Type 0} → (A → B) → Result A (Fault C) → Result B (Fault C) → Type 0
 Gives view given read = IsAsSaid (λ answer. Reads view answer read) given
-
--- the same within a line, where the definition says causes alone
-abbrev pub IsCause : {A C : Type 0} → Stop C → Result A C → Type 0
-IsCause (stop.Cause cause) read = read ≡ Err cause
-IsCause stop.NoMemory read = Unit {0}
-
-abbrev pub GivesInLine : {A B C : Type 0} → (A → B) → Result A (Stop C) → Result B C → Type 0
-GivesInLine view (Ok x) read = read ≡ Ok (view x)
-GivesInLine view (Err stop) read = IsCause stop read

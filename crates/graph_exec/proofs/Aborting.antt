@@ -16,41 +16,41 @@ use Rattle.graph_exec.specs.declared.run.stop.ReplayStop.{ReplayStop}
 use Rattle.graph_exec.specs.declared.run.stop.ReplayStop.TheVariants as stop
 use Rattle.graph_exec.specs.Counts.{AreMostAnswered, IsAbortAnswered, RoseBy}
 use Rattle.graph_exec.specs.Inner.Rounds.{Began}
-use Rattle.graph_exec.specs.Inner.Running.{EndedSilently}
+use Rattle.graph_exec.specs.Inner.ExecutorFields.{EndedSilently}
 use Rattle.graph_exec.specs.Inner.Turns.{RunEndsAs}
 use Rattle.graph_exec.specs.Replays.{Setting, Sight}
-use Rattle.graph_exec.specs.Running.{Running, going, later}
+use Rattle.graph_exec.specs.Executors.{ExecutorOf, transition_in, later}
 
 -- where nothing happened, or nothing that aborts
-pub none_aborted : (r : Running) (before now : ℕ) → IsAbortAnswered r r before now
+pub none_aborted : (r : ExecutorOf) (before now : ℕ) → IsAbortAnswered r r before now
 none_aborted r before now = record { given = λ calm aborted. let f : ⊥ = cc in absurd f }
 
-module _ (old new : Running) (before now : ℕ) where
+module _ (old new : ExecutorOf) (before now : ℕ) where
   pub none_aborts : (events : List Event) → new ≡ later old events → list_any (aborts old.cluster) events ≡ false → IsAbortAnswered old new before now
   none_aborts events on none = record {
     given = λ calm aborted.
         let among : (list_any (aborts old.cluster) old.since || list_any (aborts old.cluster) events) ≡ true
         = sym (list_any-append (aborts old.cluster) old.since events) ∙ (rw on at aborted) in
-        (none_aborted old before now).given calm (first_passes (has_aborted (going old) old.since) (list_any (aborts old.cluster) events) among none);
+        (none_aborted old before now).given calm (first_passes (has_aborted (transition_in old) old.since) (list_any (aborts old.cluster) events) among none);
   }
 
   pub begin_aborted : Began old new → IsAbortAnswered old new before now
   begin_aborted b = none_aborts (Begin b.number b.now.action ∷ []) b.now.goes_on refl
 
   pub silent_aborted : (given : Answer) → EndedSilently old new given → IsAbortAnswered old new before now
-  silent_aborted given s = none_aborts _ s.goes_on (silent_aborts_nothing (going old) old.since s.number s.action s.ends.action)
+  silent_aborted given s = none_aborts _ s.goes_on (silent_aborts_nothing (transition_in old) old.since s.number s.action s.ends.action)
 
 -- from one moment over another to a third
-module _ (first middle last : Running) (a b c : ℕ) (no_fewer : a ≤ b) (no_fewer_then : b ≤ c) where
+module _ (first middle last : ExecutorOf) (a b c : ℕ) (no_fewer : a ≤ b) (no_fewer_then : b ≤ c) where
   pub aborted_then : IsAbortAnswered first middle a b → IsAbortAnswered middle last b c → IsAbortAnswered first last a c
-  aborted_then before later = record { given = λ calm aborted. by calm aborted (has_aborted (going middle) middle.since) refl }
+  aborted_then before later = record { given = λ calm aborted. by calm aborted (has_aborted (transition_in middle) middle.since) refl }
     where
-      by : has_aborted (going first) first.since ≡ false → has_aborted (going last) last.since ≡ true → (t : Bool) → has_aborted (going middle) middle.since ≡ t → Rose a c
+      by : has_aborted (transition_in first) first.since ≡ false → has_aborted (transition_in last) last.since ≡ true → (t : Bool) → has_aborted (transition_in middle) middle.since ≡ t → Rose a c
       by calm aborted true e = let rose : Rose a b = before.given calm e in omega (arith, rose, no_fewer_then)
       by calm aborted false e = let rose : Rose b c = later.given e aborted in omega (arith, rose, no_fewer)
 
 -- over two moments
-module _ (first middle next last : Running) (a b c d : ℕ) (no_fewer : a ≤ b) (no_fewer_then : b ≤ c) (no_fewer_last : c ≤ d) where
+module _ (first middle next last : ExecutorOf) (a b c d : ℕ) (no_fewer : a ≤ b) (no_fewer_then : b ≤ c) (no_fewer_last : c ≤ d) where
   pub aborted_on : IsAbortAnswered first middle a b → IsAbortAnswered middle next b c → IsAbortAnswered next last c d → IsAbortAnswered first last a d
   aborted_on before between later =
       aborted_then first next last a c d (omega (arith, no_fewer, no_fewer_then)) no_fewer_last (aborted_then first middle next a b c no_fewer no_fewer_then before between) later

@@ -12,11 +12,11 @@ use Rattle.cluster_types.specs.Graphs.{is_before}
 use Rattle.cluster_types.specs.Steps as steps
 use Rattle.cluster_types.specs.Steps.{Begins, numbers, may_begin, is_settled, has_begun, has_succeeded, has_aborted, has_room, numbers_in_flight, in_flight_by_number, is_number_in_flight, aborts}
 use Rattle.listed.specs.Sets.{is_member, members}
-use Rattle.graph_exec.specs.Ready.{inputs_have_succeeded, startable}
+use Rattle.graph_exec.specs.ReadyActions.{inputs_have_succeeded, startable}
 use Rattle.graph_exec.specs.Flights.{InFlightOf, pairs_in_flight, paired}
 use Rattle.graph_exec.specs.Inner.Logs.{LogOf}
-use Rattle.graph_exec.specs.Running.{Running, going}
-use Rattle.graph_exec.specs.Inner.Running.{InFlightFollows, running}
+use Rattle.graph_exec.specs.Executors.{ExecutorOf, transition_in}
+use Rattle.graph_exec.specs.Inner.ExecutorFields.{InFlightFollows, running}
 use Rattle.graph_exec.proofs.FirstOf.{IsFirst, first_is, none_passes, never}
 use Rattle.run_safety.proofs.ByNumber.{numbered_is}
 use Rattle.graph_exec.proofs.Pairs.{among, of_numbers, pairs_many}
@@ -63,53 +63,53 @@ found_so p (x ∷ es) o e = on (p x) refl e (found_so p es o) where
   on false is e rest = rest e
 
 module _ (log : LogOf) (f : InFlightOf) (h : InFlightFollows log f) where
-  abbrev r : Running
+  abbrev r : ExecutorOf
   r = running log f
 
   abbrev count : ℕ
   count = length f.progress.graph.actions
 
   -- the actions in flight are those of the transition
-  pub same_flight : members f.in_flight ≡ numbers_in_flight (going r) r.since
+  pub same_flight : members f.in_flight ≡ numbers_in_flight (transition_in r) r.since
   same_flight =
       ap (λ m. filter (is_member f.in_flight) (range_with_len 1 m)) h.flight_size
-      ∙ filter-alike (is_member f.in_flight) (is_number_in_flight (going r) r.since) 1 count (λ k low high. (h.each k low (omega arith)).in_flight)
+      ∙ filter-alike (is_member f.in_flight) (is_number_in_flight (transition_in r) r.since) 1 count (λ k low high. (h.each k low (omega arith)).in_flight)
 
-  pub same_pairs : pairs_in_flight f ≡ in_flight_by_number (going r) r.since
+  pub same_pairs : pairs_in_flight f ≡ in_flight_by_number (transition_in r) r.since
   same_pairs = ap (flat_map (paired f.progress.graph.actions)) same_flight
 
   free : (k : ℕ) → inputs_have_succeeded f.progress.graph f.progress.succeeded k
-      ≡ list_all (λ j. not (is_before r.graph j k) || has_succeeded (going r) r.since j) (range_with_len 1 count)
+      ≡ list_all (λ j. not (is_before r.graph j k) || has_succeeded (transition_in r) r.since j) (range_with_len 1 count)
   free k =
       all-alike (λ j. not (is_before r.graph j k) || is_member f.progress.succeeded j)
-      (λ j. not (is_before r.graph j k) || has_succeeded (going r) r.since j) 1 count
+      (λ j. not (is_before r.graph j k) || has_succeeded (transition_in r) r.since j) 1 count
       (λ j low high. ap (λ b. not (is_before r.graph j k) || b) (h.each j low (omega arith)).succeeded)
 
   abbrev test : ℕ → Bool
   test k = inputs_have_succeeded f.progress.graph f.progress.succeeded k && not (is_member f.progress.begun k)
 
   abbrev is_open : Bool
-  is_open = not (has_aborted (going r) r.since) && has_room (going r) r.since
+  is_open = not (has_aborted (transition_in r) r.since) && has_room (transition_in r) r.since
 
-  allowed : (k : ℕ) → 0 < k → k ≤ count → may_begin (going r) r.since k ≡ (is_open && test k)
+  allowed : (k : ℕ) → 0 < k → k ≤ count → may_begin (transition_in r) r.since k ≡ (is_open && test k)
   allowed k low high =
-      moved (list_any (λ j. j == k) (numbers (going r))) (has_aborted (going r) r.since) (has_begun (going r) r.since k) (has_room (going r) r.since)
-      (list_all (λ j. not (is_before r.graph j k) || has_succeeded (going r) r.since j) (range_with_len 1 count))
+      moved (list_any (λ j. j == k) (numbers (transition_in r))) (has_aborted (transition_in r) r.since) (has_begun (transition_in r) r.since k) (has_room (transition_in r) r.since)
+      (list_all (λ j. not (is_before r.graph j k) || has_succeeded (transition_in r) r.since j) (range_with_len 1 count))
       (all_numbers count k low high)
       ∙ sym (rw (free k, (h.each k low high).begun) refl)
 
   -- none may begin, since something aborted or there is no room
-  pub settled_by : is_open ≡ false → is_settled (going r) r.since ≡ true
+  pub settled_by : is_open ≡ false → is_settled (transition_in r) r.since ≡ true
   settled_by shut =
-      ap not (any-alike (may_begin (going r) r.since) (λ j. false) 1 count
+      ap not (any-alike (may_begin (transition_in r) r.since) (λ j. false) 1 count
       (λ k low high. allowed k low (omega arith) ∙ ap (λ b. b && test k) shut) ∙ never 1 count)
 
   -- none may begin, since none is left
-  pub settled_for : slice_get (startable f.progress) 0 ≡ None → is_settled (going r) r.since ≡ true
+  pub settled_for : slice_get (startable f.progress) 0 ≡ None → is_settled (transition_in r) r.since ≡ true
   settled_for none = on is_open refl where
-    on : (b : Bool) → is_open ≡ b → is_settled (going r) r.since ≡ true
+    on : (b : Bool) → is_open ≡ b → is_settled (transition_in r) r.since ≡ true
     on true e =
-        ap not (any-alike (may_begin (going r) r.since) test 1 count
+        ap not (any-alike (may_begin (transition_in r) r.since) test 1 count
         (λ k low high. allowed k low (omega arith) ∙ ap (λ b. b && test k) e) ∙ none_passes test 1 count none)
     on false e = settled_by e
 
@@ -127,39 +127,39 @@ module _ (log : LogOf) (f : InFlightOf) (h : InFlightFollows log f) where
     pub not_begun : is_member f.progress.begun k ≡ false
     not_begun = not-true (is_member f.progress.begun k) (later (inputs_have_succeeded f.progress.graph f.progress.succeeded k) (not (is_member f.progress.begun k)) first.passes)
 
-    within : (j : ℕ) → may_begin (going r) r.since j ≡ true → list_any (λ i. i == j) (numbers (going r)) ≡ true
+    within : (j : ℕ) → may_begin (transition_in r) r.since j ≡ true → list_any (λ i. i == j) (numbers (transition_in r)) ≡ true
     within j may =
-        first_of_five (list_any (λ i. i == j) (numbers (going r))) (not (has_aborted (going r) r.since)) (not (has_begun (going r) r.since j))
-        (has_room (going r) r.since) (list_all (λ i. not (is_before r.graph i j) || has_succeeded (going r) r.since i) (numbers (going r))) may
+        first_of_five (list_any (λ i. i == j) (numbers (transition_in r))) (not (has_aborted (transition_in r) r.since)) (not (has_begun (transition_in r) r.since j))
+        (has_room (transition_in r) r.since) (list_all (λ i. not (is_before r.graph i j) || has_succeeded (transition_in r) r.since i) (numbers (transition_in r))) may
 
-    pub begins : (a : Action) → slice_get f.progress.graph.actions (k - 1) ≡ Some a → is_open ≡ true → Begins (going r) r.since k a
+    pub begins : (a : Action) → slice_get f.progress.graph.actions (k - 1) ≡ Some a → is_open ≡ true → Begins (transition_in r) r.since k a
     begins a is shut = record {
       action = numbered_so;
       allowed = allowed k low high ∙ rw (shut, first.passes) refl;
       lowest = λ j may. on j (among_so j (within j may)) may;
     } where
-      numbered_so : steps.action_at (going r) k ≡ Some a
+      numbered_so : steps.action_at (transition_in r) k ≡ Some a
       numbered_so = numbered_is f.progress.graph.actions k low high ∙ ap Some (get_or_from_slice_get f.progress.graph.actions (k - 1) a (Fence 0) is)
 
       among_so : (j : ℕ) → list_any (λ i. i == j) (range_with_len 1 count) ≡ true → (1 ≤ j) × (j < 1 + count)
       among_so j is = of_numbers 1 count j is
 
-      on : (j : ℕ) → (1 ≤ j) × (j < 1 + count) → may_begin (going r) r.since j ≡ true → k ≤ j
+      on : (j : ℕ) → (1 ≤ j) × (j < 1 + count) → may_begin (transition_in r) r.since j ≡ true → k ≤ j
       on j w may = first.least j w.0 w.1 (later is_open (test j) (sym (allowed j w.0 (omega (arith, w.1))) ∙ may))
 
   -- as many as are in flight are counted
-  pub counted_flight : length (pairs_in_flight f) ≡ length (numbers_in_flight (going r) r.since)
+  pub counted_flight : length (pairs_in_flight f) ≡ length (numbers_in_flight (transition_in r) r.since)
   counted_flight = pairs_many f (record { flags = h.flight_size }) ∙ ap length same_flight
 
   -- after an event that aborts none may begin, and none when as many are in flight as may be
-  pub settled_abort : (o : Option Event) → o ≡ find (aborts log.cluster) log.since → is_some o ≡ true → is_settled (going r) r.since ≡ true
+  pub settled_abort : (o : Option Event) → o ≡ find (aborts log.cluster) log.since → is_some o ≡ true → is_settled (transition_in r) r.since ≡ true
   settled_abort o is some = settled_by (rw (found_so (aborts log.cluster) log.since o (sym is) ∙ some) refl)
 
-  pub settled_full : has_room (going r) r.since ≡ false → is_settled (going r) r.since ≡ true
-  settled_full full = settled_by (rw full (on (has_aborted (going r) r.since))) where
+  pub settled_full : has_room (transition_in r) r.since ≡ false → is_settled (transition_in r) r.since ≡ true
+  settled_full full = settled_by (rw full (on (has_aborted (transition_in r) r.since))) where
     on : (b : Bool) → (not b && false) ≡ false
     on true = refl
     on false = refl
 
-  pub opened : (o : Option Event) → o ≡ find (aborts log.cluster) log.since → is_some o ≡ false → has_room (going r) r.since ≡ true → is_open ≡ true
+  pub opened : (o : Option Event) → o ≡ find (aborts log.cluster) log.since → is_some o ≡ false → has_room (transition_in r) r.since ≡ true → is_open ≡ true
   opened o is none room = rw (found_so (aborts log.cluster) log.since o (sym is) ∙ none, room) refl

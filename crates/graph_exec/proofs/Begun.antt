@@ -9,18 +9,18 @@ use Rattle.cluster_types.specs.declared.journal.Action.{Action}
 use Rattle.cluster_types.specs.declared.journal.Event.TheVariants.{Begin}
 use Rattle.cluster_types.specs.Steps as steps
 use Rattle.listed.specs.Sets.{is_member}
-use Rattle.graph_exec.specs.Ready.{startable}
+use Rattle.graph_exec.specs.ReadyActions.{startable}
 use Rattle.graph_exec.specs.Flights.{InFlightOf}
 use Rattle.graph_exec.specs.Inner.Flights.{with_begun}
 use Rattle.graph_exec.specs.Inner.Logs.{LogOf}
-use Rattle.graph_exec.specs.Running.{Running, going}
-use Rattle.graph_exec.specs.Inner.Running.{InFlightFollows, running}
+use Rattle.graph_exec.specs.Executors.{ExecutorOf, transition_in}
+use Rattle.graph_exec.specs.Inner.ExecutorFields.{InFlightFollows, running}
 use Rattle.graph_exec.proofs.Beginning as beginning
 use Rattle.graph_exec.proofs.Beginning.{one}
 use Rattle.graph_exec.proofs.OneMore.{Adds, set_one}
 
 module _ (log : LogOf) (f : InFlightOf) (h : InFlightFollows log f) (k : ℕ) (at : slice_get (startable f.progress) 0 ≡ Some k) where
-  abbrev r : Running
+  abbrev r : ExecutorOf
   r = running log f
 
   low : 0 < k
@@ -45,7 +45,7 @@ module _ (log : LogOf) (f : InFlightOf) (h : InFlightFollows log f) (k : ℕ) (a
   not_flying : is_member f.in_flight k ≡ false
   not_flying =
       (h.each k low high).in_flight
-      ∙ ap (λ b. b && not (steps.has_number_ended (going r) r.since k)) (sym (h.each k low high).begun ∙ not_begun)
+      ∙ ap (λ b. b && not (steps.has_number_ended (transition_in r) r.since k)) (sym (h.each k low high).begun ∙ not_begun)
 
   counted_flying : count_by (λ b. b) (slice_set f.in_flight (k - 1) true) ≡ count_by (λ b. b) f.in_flight + 1
   counted_flying =

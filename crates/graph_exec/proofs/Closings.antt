@@ -7,17 +7,17 @@ use Rattle.cluster_types.specs.declared.journal.Answer.{Answer}
 use Rattle.cluster_types.specs.declared.journal.Event.{Event}
 use Rattle.cluster_types.specs.declared.journal.Journal.{Journal}
 use Rattle.cluster_types.specs.declared.journal.Promotion.{Promotion}
-use Rattle.cluster_types.specs.Answering.{applies_after}
+use Rattle.cluster_types.specs.AnswersThatApply.{applies_after}
 use Rattle.cluster_types.specs.Runs.{amid, RunsOn, goes, completes, aborts, journal_at}
 use Rattle.cluster_types.specs.Steps as steps
 use Rattle.cluster_types.specs.Steps.{Transition, StepsOn, HasEnded, IsWaiting, in_flight_by_number, has_aborted, journal, count_from_outside}
 use Rattle.cluster_types.specs.Texts.{event_lines}
-use Rattle.graph_exec.specs.Logs.{JournalOf}
-use Rattle.graph_exec.specs.Running.{Running, Went, going}
-use Rattle.graph_exec.specs.Inner.Running.{running_journal}
-use Rattle.graph_exec.specs.Telling.{closing_line}
-use Rattle.graph_exec.specs.Transitions.{IsAborted, IsComplete, IsCutBy, WentAsSaid, WentTo}
-use Rattle.graph_exec.specs.Watching.{IsWatcherCutOff, IsWatcherCutOffAsking, AreLinesTold}
+use Rattle.graph_exec.specs.KnownJournals.{KnownJournalOf}
+use Rattle.graph_exec.specs.Executors.{ExecutorOf, Went, transition_in}
+use Rattle.graph_exec.specs.Inner.ExecutorFields.{running_journal}
+use Rattle.graph_exec.specs.WatcherLines.{closing_line}
+use Rattle.graph_exec.specs.Transitions.{IsAborted, IsComplete, IsCutBy, WentAsSaid, WentBeforeSaid}
+use Rattle.graph_exec.specs.WatchedTransitions.{IsWatcherCutOff, IsWatcherCutOffAsking, AreLinesTold}
 use Rattle.graph_exec.proofs.Beginning.{found_so}
 use Rattle.graph_exec.proofs.Said.{taken_none}
 use Rattle.run_safety.proofs.SoFar.{runs_once}
@@ -26,7 +26,7 @@ use Rattle.graph_exec.specs.Inner.Turns.{HasComeTo, CameTo, EndsBroken, RunEndsC
 use Rattle.graph_exec.proofs.Joined.{came_on, came_step}
 use Rattle.graph_exec.proofs.Steps.{came_carried, part_runs, part_said, part_told}
 
-abbrev left_with : List Event → Running → Journal
+abbrev left_with : List Event → ExecutorOf → Journal
 left_with since r = record { events = r.planned_at ++ since; promotions = r.promotions }
 
 abbrev with_events : List Promotion → List Event → Journal
@@ -36,29 +36,29 @@ at_closed : (k : ℕ) (complete : Bool) (es : List Event) → es ≡ journal_at 
 at_closed k true es = refl
 at_closed k false es = refl
 
-module _ (whole steady : Bool) (k : ℕ) (r now : Running) (fresh : r.since ≡ []) (rest left : Option (List Answer)) (over over_now : Bool) where
+module _ (whole steady : Bool) (k : ℕ) (r now : ExecutorOf) (fresh : r.since ≡ []) (rest left : Option (List Answer)) (over over_now : Bool) where
   abbrev here_set : Setting
   here_set = setting r.cluster r.promotions whole steady
 
   module _ (went : Went whole r now rest left) where
-    same_going : going now ≡ going r
-    same_going = ap going went.same
+    same_going : transition_in now ≡ transition_in r
+    same_going = ap transition_in went.same
 
     module _ (First : List RunLine → Type 0) (told : AreLinesTold First r now) where
       went_here : (steady ≡ true → over_now ≡ false → WentAsSaid r now rest left)
-          → HasComeTo First here_set (amid k (going r) []) (sight rest over) (sight left over_now) (amid k (going r) now.since)
+          → HasComeTo First here_set (amid k (transition_in r) []) (sight rest over) (sight left over_now) (amid k (transition_in r) now.since)
       went_here said = came_carried here_set k r now fresh First rest left over over_now went told said
 
       module _ (complete : Bool)
-          (step : (w : Bool) (xs : Option (List Answer)) → RunsOn r.cluster r.promotions w (amid k (going r) now.since) xs (closing_line k complete ∷ []) (closed_at k complete (journal (going r) now.since)) xs) where
+          (step : (w : Bool) (xs : Option (List Answer)) → RunsOn r.cluster r.promotions w (amid k (transition_in r) now.since) xs (closing_line k complete ∷ []) (closed_at k complete (journal (transition_in r) now.since)) xs) where
         closed_to : (Then All : List RunLine → Type 0) → ((lines more : List RunLine) → First lines → Then more → All (lines ++ more))
-            → (steady ≡ true → over_now ≡ false → WentAsSaid r now rest left) → Then (closing_line k complete ∷ []) → (j : JournalOf) → j ≡ running_journal now
-            → CameTo All here_set (amid k (going r) []) (sight rest over) (sight left over_now) (closed_at k complete) j
+            → (steady ≡ true → over_now ≡ false → WentAsSaid r now rest left) → Then (closing_line k complete ∷ []) → (j : KnownJournalOf) → j ≡ running_journal now
+            → CameTo All here_set (amid k (transition_in r) []) (sight rest over) (sight left over_now) (closed_at k complete) j
         closed_to Then All join said closed j is =
-            let events : j.events ≡ journal (going r) now.since = ap (λ (x : JournalOf). x.events) is ∙ ap (λ (x : Running). x.planned_at ++ now.since) went.same in
-            let whole_way = came_on here_set First Then All join (amid k (going r) []) (amid k (going r) now.since) (sight rest over) (sight left over_now) (sight left over_now)
-            (went_here said) (closed_at k complete (journal (going r) now.since)) (λ steady h. h)
-            (came_step here_set Then (amid k (going r) now.since) (closed_at k complete (journal (going r) now.since)) (sight left over_now) (sight left over_now)
+            let events : j.events ≡ journal (transition_in r) now.since = ap (λ (x : KnownJournalOf). x.events) is ∙ ap (λ (x : ExecutorOf). x.planned_at ++ now.since) went.same in
+            let whole_way = came_on here_set First Then All join (amid k (transition_in r) []) (amid k (transition_in r) now.since) (sight rest over) (sight left over_now) (sight left over_now)
+            (went_here said) (closed_at k complete (journal (transition_in r) now.since)) (λ steady h. h)
+            (came_step here_set Then (amid k (transition_in r) now.since) (closed_at k complete (journal (transition_in r) now.since)) (sight left over_now) (sight left over_now)
             (closing_line k complete ∷ []) (step whole left) closed
             (λ steady open_still. record {
               answers = [];
@@ -66,21 +66,21 @@ module _ (whole steady : Bool) (k : ℕ) (r now : Running) (fresh : r.since ≡ 
               taken = taken_none left;
             })) in
             record {
-              cluster_stays = ap (λ (x : JournalOf). x.cluster) is ∙ ap (λ (x : Running). x.cluster) went.same;
-              promotions_stay = ap (λ (x : JournalOf). x.promotions) is ∙ ap (λ (x : Running). x.promotions) went.same;
-              came = subst (λ (es : List Event). HasComeTo All here_set (amid k (going r) []) (sight rest over) (sight left over_now) (closed_at k complete es)) (sym events) whole_way;
+              cluster_stays = ap (λ (x : KnownJournalOf). x.cluster) is ∙ ap (λ (x : ExecutorOf). x.cluster) went.same;
+              promotions_stay = ap (λ (x : KnownJournalOf). x.promotions) is ∙ ap (λ (x : ExecutorOf). x.promotions) went.same;
+              came = subst (λ (es : List Event). HasComeTo All here_set (amid k (transition_in r) []) (sight rest over) (sight left over_now) (closed_at k complete es)) (sym events) whole_way;
             }
 
         closed_short : (All : List RunLine → Type 0) (StopThen Stopped : List RunLine → Option RunLine → Type 0)
             → ((lines more : List RunLine) (at : Option RunLine) → First lines → StopThen more at → Stopped (lines ++ more) at) → StopThen [] (Some (closing_line k complete))
-            → (j : Journal) → j ≡ left_of now → EndsStopped All here_set (amid k (going r) []) (sight rest over) (sight left over_now) Stopped j
+            → (j : Journal) → j ≡ left_of now → EndsStopped All here_set (amid k (transition_in r) []) (sight rest over) (sight left over_now) Stopped j
         closed_short All StopThen Stopped stop stopped j is = record {
-          before = amid k (going r) now.since;
-          next = closed_at k complete (journal (going r) now.since);
+          before = amid k (transition_in r) now.since;
+          next = closed_at k complete (journal (transition_in r) now.since);
           middle = left;
           lines = flat_map event_lines now.since;
           call = closing_line k complete ∷ [];
-          runs = part_runs r.cluster r.promotions whole k (going r) r.since now.since rest left fresh went.steps;
+          runs = part_runs r.cluster r.promotions whole k (transition_in r) r.since now.since rest left fresh went.steps;
           step = step whole left;
           told = record {
             before = [];
@@ -90,48 +90,48 @@ module _ (whole steady : Bool) (k : ℕ) (r now : Running) (fresh : r.since ≡ 
             stopped = stop (flat_map event_lines now.since) [] (Some (closing_line k complete)) (part_told here_set k r now fresh First told) stopped;
           };
           leaves = is ∙ ap (left_with now.since) went.same
-              ∙ ap (with_events r.promotions) (at_closed k complete (journal (going r) now.since));
+              ∙ ap (with_events r.promotions) (at_closed k complete (journal (transition_in r) now.since));
         }
 
       complete_step : IsComplete now → (w : Bool) (xs : Option (List Answer))
-          → RunsOn r.cluster r.promotions w (amid k (going r) now.since) xs (closing_line k true ∷ []) (closed_at k true (journal (going r) now.since)) xs
+          → RunsOn r.cluster r.promotions w (amid k (transition_in r) now.since) xs (closing_line k true ∷ []) (closed_at k true (journal (transition_in r) now.since)) xs
       complete_step e w xs =
-          completes k (going r) now.since xs (subst (λ (t : Transition). HasEnded t now.since) same_going e.ended)
+          completes k (transition_in r) now.since xs (subst (λ (t : Transition). HasEnded t now.since) same_going e.ended)
           (subst (λ (t : Transition). has_aborted t now.since ≡ false) same_going e.unaborted)
 
       aborted_step : (first : Event) → IsAborted now first → (w : Bool) (xs : Option (List Answer))
-          → RunsOn r.cluster r.promotions w (amid k (going r) now.since) xs (closing_line k false ∷ []) (closed_at k false (journal (going r) now.since)) xs
+          → RunsOn r.cluster r.promotions w (amid k (transition_in r) now.since) xs (closing_line k false ∷ []) (closed_at k false (journal (transition_in r) now.since)) xs
       aborted_step first e w xs =
-          aborts k (going r) now.since xs (subst (λ (t : Transition). HasEnded t now.since) same_going e.ended)
+          aborts k (transition_in r) now.since xs (subst (λ (t : Transition). HasEnded t now.since) same_going e.ended)
           (subst (λ (t : Transition). has_aborted t now.since ≡ true) same_going (found_so (steps.aborts now.cluster) now.since (Some first) e.first_is))
 
       module _ (Then All : List RunLine → Type 0) (join : (lines more : List RunLine) → First lines → Then more → All (lines ++ more)) where
         pub closes_complete : IsComplete now → (steady ≡ true → over_now ≡ false → WentAsSaid r now rest left) → Then (closing_line k true ∷ [])
-            → (j : JournalOf) → j ≡ running_journal now → CameTo All here_set (amid k (going r) []) (sight rest over) (sight left over_now) (closed_at k true) j
+            → (j : KnownJournalOf) → j ≡ running_journal now → CameTo All here_set (amid k (transition_in r) []) (sight rest over) (sight left over_now) (closed_at k true) j
         closes_complete e said closed j is = closed_to true (complete_step e) Then All join said closed j is
 
         pub closes_aborted : (first : Event) → IsAborted now first → (steady ≡ true → over_now ≡ false → WentAsSaid r now rest left)
-            → Then (closing_line k false ∷ []) → (j : JournalOf) → j ≡ running_journal now
-            → CameTo All here_set (amid k (going r) []) (sight rest over) (sight left over_now) (closed_at k false) j
+            → Then (closing_line k false ∷ []) → (j : KnownJournalOf) → j ≡ running_journal now
+            → CameTo All here_set (amid k (transition_in r) []) (sight rest over) (sight left over_now) (closed_at k false) j
         closes_aborted first e said closed j is = closed_to false (aborted_step first e) Then All join said closed j is
 
       module _ (All : List RunLine → Type 0) (StopThen Stopped : List RunLine → Option RunLine → Type 0)
           (stop : (lines more : List RunLine) (at : Option RunLine) → First lines → StopThen more at → Stopped (lines ++ more) at) where
         pub stops_complete : IsComplete now → StopThen [] (Some (closing_line k true)) → (j : Journal) → j ≡ left_of now
-            → EndsStopped All here_set (amid k (going r) []) (sight rest over) (sight left over_now) Stopped j
+            → EndsStopped All here_set (amid k (transition_in r) []) (sight rest over) (sight left over_now) Stopped j
         stops_complete e stopped j is = closed_short true (complete_step e) All StopThen Stopped stop stopped j is
 
         pub stops_aborted : (first : Event) → IsAborted now first → StopThen [] (Some (closing_line k false)) → (j : Journal) → j ≡ left_of now
-            → EndsStopped All here_set (amid k (going r) []) (sight rest over) (sight left over_now) Stopped j
+            → EndsStopped All here_set (amid k (transition_in r) []) (sight rest over) (sight left over_now) Stopped j
         stops_aborted first e stopped j is = closed_short false (aborted_step first e) All StopThen Stopped stop stopped j is
 
       -- the source failed
-      pub broken : IsWaiting (going now) now.since → (steady ≡ true → WentAsSaid r now rest left) → (steady ≡ true → over ≡ false) → (j : Journal) → j ≡ left_of now
-          → EndsBroken First here_set (amid k (going r) []) (sight rest over) (sight left over_now) j
+      pub broken : IsWaiting (transition_in now) now.since → (steady ≡ true → WentAsSaid r now rest left) → (steady ≡ true → over ≡ false) → (j : Journal) → j ≡ left_of now
+          → EndsBroken First here_set (amid k (transition_in r) []) (sight rest over) (sight left over_now) j
       broken waiting said not_over j is = record {
-        last = amid k (going r) now.since;
+        last = amid k (transition_in r) now.since;
         lines = flat_map event_lines now.since;
-        runs = part_runs r.cluster r.promotions whole k (going r) r.since now.since rest left fresh went.steps;
+        runs = part_runs r.cluster r.promotions whole k (transition_in r) r.since now.since rest left fresh went.steps;
         told = part_told here_set k r now fresh First told;
         asking = subst (λ (t : Transition). IsWaiting t now.since) same_going waiting;
         said = λ always. part_said here_set k r now fresh rest left (said always);
@@ -140,17 +140,17 @@ module _ (whole steady : Bool) (k : ℕ) (r now : Running) (fresh : r.since ≡ 
       }
 
   -- an answer came that doesn't apply
-  pub cut : (Follows : List RunLine → Type 0) (given : Answer) → WentTo whole r now rest left given → AreLinesTold Follows r now → IsCutBy now given → (j : Journal)
-      → j ≡ left_of now → RunEndsCut Follows here_set (amid k (going r) []) (sight rest over) (sight left over_now) j given
+  pub cut : (Follows : List RunLine → Type 0) (given : Answer) → WentBeforeSaid whole r now rest left given → AreLinesTold Follows r now → IsCutBy now given → (j : Journal)
+      → j ≡ left_of now → RunEndsCut Follows here_set (amid k (transition_in r) []) (sight rest over) (sight left over_now) j given
   cut Follows given g told e j is =
-      let same : going now ≡ going r = ap going g.went.same in
-      let refused : applies_after r.cluster (journal (going r) now.since) (in_flight_by_number (going r) now.since) (count_from_outside (going r) now.since) given ≡ false
+      let same : transition_in now ≡ transition_in r = ap transition_in g.went.same in
+      let refused : applies_after r.cluster (journal (transition_in r) now.since) (in_flight_by_number (transition_in r) now.since) (count_from_outside (transition_in r) now.since) given ≡ false
       = subst (λ (t : Transition). applies_after t.cluster (journal t now.since) (in_flight_by_number t now.since) (count_from_outside t now.since) given ≡ false) same e.refused in
       record {
-        last = amid k (going r) now.since;
+        last = amid k (transition_in r) now.since;
         unread = g.before;
         lines = flat_map event_lines now.since;
-        runs = part_runs r.cluster r.promotions whole k (going r) r.since now.since rest g.before fresh g.went.steps;
+        runs = part_runs r.cluster r.promotions whole k (transition_in r) r.since now.since rest g.before fresh g.went.steps;
         told = part_told here_set k r now fresh Follows told;
         cut = record {
           asking = subst (λ (t : Transition). IsWaiting t now.since) same e.waiting;
@@ -162,18 +162,18 @@ module _ (whole steady : Bool) (k : ℕ) (r now : Running) (fresh : r.since ≡ 
 
   -- the watcher stopped at a step
   stops_amid : (All : List RunLine → Type 0) (Stopped : List RunLine → Option RunLine → Type 0) → IsWatcherCutOff Stopped whole r now rest left → (j : Journal) → j ≡ left_of now
-      → EndsStopped All here_set (amid k (going r) []) (sight rest over) (sight left over_now) Stopped j
+      → EndsStopped All here_set (amid k (transition_in r) []) (sight rest over) (sight left over_now) Stopped j
   stops_amid All Stopped b j is =
-      let same : going b.at ≡ going r = ap going b.went.same in
+      let same : transition_in b.at ≡ transition_in r = ap transition_in b.went.same in
       let since : b.at.since ≡ b.before = rw fresh at b.happened in
       record {
-        before = amid k (going r) b.at.since;
-        next = amid k (going r) (b.at.since ++ b.events);
+        before = amid k (transition_in r) b.at.since;
+        next = amid k (transition_in r) (b.at.since ++ b.events);
         middle = b.middle;
         lines = flat_map event_lines b.at.since;
         call = flat_map event_lines b.events;
-        runs = part_runs r.cluster r.promotions whole k (going r) r.since b.at.since rest b.middle fresh b.went.steps;
-        step = goes k (going r) b.at.since b.events b.middle left (subst (λ (t : Transition). StepsOn t whole b.at.since b.middle b.events left) same b.step);
+        runs = part_runs r.cluster r.promotions whole k (transition_in r) r.since b.at.since rest b.middle fresh b.went.steps;
+        step = goes k (transition_in r) b.at.since b.events b.middle left (subst (λ (t : Transition). StepsOn t whole b.at.since b.middle b.events left) same b.step);
         told = record {
           before = [];
           at = b.line;
@@ -186,19 +186,19 @@ module _ (whole steady : Bool) (k : ℕ) (r now : Running) (fresh : r.since ≡ 
 
   -- or as the source was about to be asked
   stops_asking : (All : List RunLine → Type 0) (Stopped : List RunLine → Option RunLine → Type 0) → Went whole r now rest left → IsWatcherCutOffAsking Stopped r now → (j : Journal)
-      → j ≡ left_of now → EndsStoppedAsking All here_set (amid k (going r) []) (sight rest over) (sight left over_now) Stopped j
+      → j ≡ left_of now → EndsStoppedAsking All here_set (amid k (transition_in r) []) (sight rest over) (sight left over_now) Stopped j
   stops_asking All Stopped went b j is = record {
-    last = amid k (going r) now.since;
+    last = amid k (transition_in r) now.since;
     lines = flat_map event_lines now.since;
-    runs = part_runs r.cluster r.promotions whole k (going r) r.since now.since rest left fresh went.steps;
+    runs = part_runs r.cluster r.promotions whole k (transition_in r) r.since now.since rest left fresh went.steps;
     told = part_told here_set k r now fresh (λ lines. Stopped lines None) b.told;
-    asking = subst (λ (t : Transition). IsWaiting t now.since) (ap going went.same) b.waiting;
+    asking = subst (λ (t : Transition). IsWaiting t now.since) (ap transition_in went.same) b.waiting;
     leaves = is ∙ ap (left_with now.since) went.same;
   }
 
   pub stops_either : (All : List RunLine → Type 0) (Stopped : List RunLine → Option RunLine → Type 0) → Went whole r now rest left
       → IsWatcherCutOff Stopped whole r now rest left ⊎ IsWatcherCutOffAsking Stopped r now → (j : Journal) → j ≡ left_of now
-      → EndsStopped All here_set (amid k (going r) []) (sight rest over) (sight left over_now) Stopped j
-      ⊎ EndsStoppedAsking All here_set (amid k (going r) []) (sight rest over) (sight left over_now) Stopped j
+      → EndsStopped All here_set (amid k (transition_in r) []) (sight rest over) (sight left over_now) Stopped j
+      ⊎ EndsStoppedAsking All here_set (amid k (transition_in r) []) (sight rest over) (sight left over_now) Stopped j
   stops_either All Stopped went (inl b) j is = inl (stops_amid All Stopped b j is)
   stops_either All Stopped went (inr b) j is = inr (stops_asking All Stopped went b j is)

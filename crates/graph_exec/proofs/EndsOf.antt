@@ -11,15 +11,15 @@ use Rattle.cluster_types.specs.declared.journal.Action.{Action}
 use Rattle.cluster_types.specs.declared.journal.Event.{Event}
 use Rattle.cluster_types.specs.declared.journal.Event.TheVariants.{Ended}
 use Rattle.cluster_types.specs.declared.journal.Outcome.{Outcome}
-use Rattle.cluster_types.specs.Answering.{is_number_of}
+use Rattle.cluster_types.specs.AnswersThatApply.{is_number_of}
 use Rattle.cluster_types.specs.Journals.{moment_of}
 use Rattle.cluster_types.specs.Steps.{is_success, is_from_outside, ended, in_flight_by_number, has_begun, has_number_ended, has_succeeded}
 use Rattle.listed.specs.Sets.{is_member}
 use Rattle.graph_exec.specs.Flights.{InFlightOf, pairs_in_flight}
 use Rattle.graph_exec.specs.Inner.Flights.{with_ended}
 use Rattle.graph_exec.specs.Inner.Logs.{LogOf}
-use Rattle.graph_exec.specs.Running.{Running, going}
-use Rattle.graph_exec.specs.Inner.Running.{InFlightFollows, running}
+use Rattle.graph_exec.specs.Executors.{ExecutorOf, transition_in}
+use Rattle.graph_exec.specs.Inner.ExecutorFields.{InFlightFollows, running}
 use Rattle.graph_exec.proofs.Beginning.{one, same_pairs}
 use Rattle.graph_exec.proofs.Flying.{ended_of}
 use Rattle.graph_exec.proofs.OneMore.{Adds, set_one, unset_one}
@@ -27,10 +27,10 @@ use Rattle.run_safety.proofs.ByNumber.{action_of}
 use Rattle.graph_exec.proofs.Pairs.{is_flying, not_flying}
 
 module _ (log : LogOf) (f : InFlightOf) (h : InFlightFollows log f) where
-  abbrev r : Running
+  abbrev r : ExecutorOf
   r = running log f
 
-  module _ (k : ℕ) (flies : list_any (is_number_of k) (in_flight_by_number (going r) r.since) ≡ true) where
+  module _ (k : ℕ) (flies : list_any (is_number_of k) (in_flight_by_number (transition_in r) r.since) ≡ true) where
     flies_here : list_any (is_number_of k) (pairs_in_flight f) ≡ true
     flies_here = ap (list_any (is_number_of k)) (same_pairs log f h) ∙ flies
 
@@ -52,26 +52,26 @@ module _ (log : LogOf) (f : InFlightOf) (h : InFlightFollows log f) where
     is_up : is_member f.in_flight k ≡ true
     is_up = sym (is_flying f (record { flags = h.flight_size }) k low within) ∙ flies_here
 
-    up : (has_begun (going r) r.since k && not (has_number_ended (going r) r.since k)) ≡ true
+    up : (has_begun (transition_in r) r.since k && not (has_number_ended (transition_in r) r.since k)) ≡ true
     up = sym (h.each k low high).in_flight ∙ is_up
 
     -- it has begun, and hasn't succeeded
     pub has_run : is_member f.progress.begun k ≡ true
-    has_run = (h.each k low high).begun ∙ sooner (has_begun (going r) r.since k) (not (has_number_ended (going r) r.since k)) up
+    has_run = (h.each k low high).begun ∙ sooner (has_begun (transition_in r) r.since k) (not (has_number_ended (transition_in r) r.since k)) up
 
     pub not_yet : is_member f.progress.succeeded k ≡ false
-    not_yet = (h.each k low high).succeeded ∙ on (has_succeeded (going r) r.since k) refl where
-      on : (b : Bool) → has_succeeded (going r) r.since k ≡ b → b ≡ false
+    not_yet = (h.each k low high).succeeded ∙ on (has_succeeded (transition_in r) r.since k) refl where
+      on : (b : Bool) → has_succeeded (transition_in r) r.since k ≡ b → b ≡ false
       on true e =
           let o = (h.each k low high).over e in
-          let n = not-true (has_number_ended (going r) r.since k) (later (has_begun (going r) r.since k) (not (has_number_ended (going r) r.since k)) up) in
+          let n = not-true (has_number_ended (transition_in r) r.since k) (later (has_begun (transition_in r) r.since k) (not (has_number_ended (transition_in r) r.since k)) up) in
           cc
       on false e = refl
 
     abbrev action : Action
     action = action_of f.progress.graph.actions k
 
-    pub ended_is : (outcome : Outcome) → ended (going r) r.since k outcome ≡ Ended k action outcome (moment_of (r.planned_at ++ r.since)) ∷ []
+    pub ended_is : (outcome : Outcome) → ended (transition_in r) r.since k outcome ≡ Ended k action outcome (moment_of (r.planned_at ++ r.since)) ∷ []
     ended_is outcome = ended_of r k flies outcome
 
     counted_flying : count_by (λ b. b) (slice_set f.in_flight (k - 1) false) + 1 ≡ count_by (λ b. b) f.in_flight

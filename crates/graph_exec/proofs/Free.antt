@@ -9,8 +9,8 @@ use Rattle.edges.specs.declared.edge.Edge.{Edge}
 use Rattle.cluster_types.specs.Graphs.{GraphOf, IsGraph, LeadsByGates, direct, through, is_before}
 use Rattle.cluster_types.proofs.Paths.{before-computed, before-from_computed}
 use Rattle.listed.specs.Sets.{is_member, members}
-use Rattle.graph_exec.specs.Inner.Freed.{ClearsGates, edges_held}
-use Rattle.graph_exec.specs.Ready.{inputs_have_succeeded, startable}
+use Rattle.graph_exec.specs.Inner.ClearedPositions.{ClearsGates, edges_held}
+use Rattle.graph_exec.specs.ReadyActions.{inputs_have_succeeded, startable}
 use Rattle.lemmas.proofs.Booleans.{unless, sooner, later}
 use Rattle.lemmas.proofs.Counts.{count_none, count_some}
 use Rattle.lemmas.proofs.Ranges.{all_in_range, filter-alike}

@@ -6,7 +6,7 @@ use Rattle.cluster_types.specs.declared.journal.Answer.{Answer}
 use Rattle.cluster_types.specs.declared.journal.Journal.{Journal}
 use Rattle.cluster_types.specs.declared.run.RunLine.{RunLine}
 use Rattle.cluster_types.specs.Runs.{RunStanding, IsBetween, Runs, RunsOn, here}
-use Rattle.graph_exec.specs.Telling.{StopsAmong}
+use Rattle.graph_exec.specs.WatcherLines.{StopsAmong}
 use Rattle.graph_exec.proofs.Said.{taken_none, taken_then}
 use Rattle.run_safety.proofs.SoFar.{runs_joined, runs_once}
 use Rattle.graph_exec.specs.declared.run.stop.ReplayStop.{ReplayStop}

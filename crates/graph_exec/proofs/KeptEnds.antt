@@ -16,21 +16,21 @@ use Rattle.cluster_types.specs.Journals.{Orderly}
 use Rattle.cluster_types.specs.Runs.{RunStanding, due, idle, answers, Runs, here, journal_at}
 use Rattle.cluster_types.specs.Safety.{IsAtRest, IsSafeRun}
 use Rattle.cluster_types.specs.Sources.{Says, told}
-use Rattle.cluster_types.specs.Steps.{Applies, answer_events, resting}
+use Rattle.cluster_types.specs.Steps.{Applies, answer_events, idling}
 use Rattle.cluster_types.specs.Texts.{all_passed_lines, event_lines}
-use Rattle.graph_exec.specs.Logs.{JournalOf}
-use Rattle.graph_exec.specs.Resting.{TookResting}
-use Rattle.graph_exec.specs.Saying.{TakesAnswers}
+use Rattle.graph_exec.specs.KnownJournals.{KnownJournalOf}
+use Rattle.graph_exec.specs.IdleClusters.{TookIdle}
+use Rattle.graph_exec.specs.SourceDuties.{TakesAnswers}
 use Rattle.graph_exec.proofs.Said.{taken_one}
-use Rattle.run_safety.specs.Kept.{AreWithin}
+use Rattle.run_safety.specs.KeptLines.{AreWithin}
 use Rattle.run_safety.proofs.Kept.{between_passed}
 use Rattle.run_safety.proofs.Printed.{answer_line}
 use Rattle.run_safety.proofs.Rests.{at_rest, in_order}
 use Rattle.run_safety.proofs.SoFar.{runs_joined, runs_once}
 use Rattle.graph_exec.specs.declared.run.stop.ReplayStop.{ReplayStop}
 use Rattle.graph_exec.specs.declared.run.stop.ReplayStop.TheVariants as stop
-use Rattle.graph_exec.specs.Inner.Keeping.{IsUnanswered, KeepsPassed, KeepsEnd, KeepsTo, kept_end}
-use Rattle.graph_exec.specs.Kept.{IsPassedOfPlan, KeepsAs, KeepsPlans}
+use Rattle.graph_exec.specs.Inner.KeptTransitions.{IsUnanswered, KeepsPassed, KeepsEnd, KeepsTo, kept_end}
+use Rattle.graph_exec.specs.KeptRuns.{IsPassedOfPlan, KeepsAs, KeepsPlans}
 use Rattle.graph_exec.specs.Replays.{Setting, AgreesWith, IsReplayExpected, IsJournalKept, OfMade}
 use Rattle.graph_exec.specs.Inner.Turns.{IsSaid, journal_back, plain_of}
 use Rattle.graph_exec.proofs.Joined.{said_none, said_then}
@@ -49,20 +49,20 @@ module _ (s : Setting) (es : List Event) (first : Option (List Answer)) where
   unsaid : (rest : Option (List Answer)) (over : Bool) (passed : List Passed) (at : RunStanding) → KeepsPassed s es first rest over passed at → KeepsPassed s es first rest true passed at
   unsaid rest over passed at keeps = record { runs = keeps.runs; said = λ steady open_still. absurd (let f : ⊥ = cc in f); each = keeps.each }
 
-  module _ (rest left : Option (List Answer)) (over : Bool) (passed : List Passed) (k : ℕ) (j : JournalOf) (same : j.cluster ≡ s.cluster)
+  module _ (rest left : Option (List Answer)) (over : Bool) (passed : List Passed) (k : ℕ) (j : KnownJournalOf) (same : j.cluster ≡ s.cluster)
       (keeps : KeepsPassed s es first rest over passed (idle k j.events)) where
     -- an answer is entered
     pub kept_answered : (over_now : Bool) → (s.steady ≡ true → over ≡ true → over_now ≡ true) → 0 < length passed → (given : Answer) → Says s.whole rest (Some given) left
-        → (next : JournalOf) → TookResting j next given → KeepsPassed s es first left over_now passed (due (k + 1) next.events)
+        → (next : KnownJournalOf) → TookIdle j next given → KeepsPassed s es first left over_now passed (due (k + 1) next.events)
     kept_answered over_now stays some given said next took =
-        let applies = subst (λ (c : Cluster). Applies (resting c j.events) [] given) same took.applies in
-        let added = answer_events (resting s.cluster j.events) [] given in
+        let applies = subst (λ (c : Cluster). Applies (idling c j.events) [] given) same took.applies in
+        let added = answer_events (idling s.cluster j.events) [] given in
         let later = due (k + 1) (j.events ++ added) in
         let events : j.events ++ added ≡ next.events =
-        sym (ap (λ (x : JournalOf). x.events) took.goes_on ∙ ap (λ (c : Cluster). j.events ++ answer_events (resting c j.events) [] given) same) in
+        sym (ap (λ (x : KnownJournalOf). x.events) took.goes_on ∙ ap (λ (c : Cluster). j.events ++ answer_events (idling c j.events) [] given) same) in
         let so_far = all_passed_lines s.cluster j.events 1 passed in
         let lines : so_far ++ line.Taken given ∷ [] ≡ all_passed_lines s.cluster (j.events ++ added) 1 passed =
-        ap (λ (x : List RunLine). so_far ++ x) (sym (answer_line (resting s.cluster j.events) [] given applies))
+        ap (λ (x : List RunLine). so_far ++ x) (sym (answer_line (idling s.cluster j.events) [] given applies))
         ∙ sym (lines_behind s.cluster j.events added passed some (within_each s.cluster s.promotions j.events passed keeps.each)) in
         let there : KeepsPassed s es first left over_now passed later = record {
           runs = subst (λ (x : List RunLine). Runs s.cluster s.promotions s.whole (due 1 es) first x later left) lines
@@ -96,7 +96,7 @@ module _ (s : Setting) (es : List Event) (first : Option (List Answer)) where
       cut = record {
         asking = tt;
         said = w.said;
-        refused = subst (λ (c : Cluster). ¬ Applies (resting c j.events) [] given) same w.refused.refused;
+        refused = subst (λ (c : Cluster). ¬ Applies (idling c j.events) [] given) same w.refused.refused;
       };
       leaves = w.leaves ∙ ap plain_of w.refused.same ∙ ap (λ (x : List Promotion). record { events = j.events; promotions = x }) like;
     }
@@ -208,7 +208,7 @@ expected_kept passed (Err (stop.Most journal)) h = tt
 expected_kept passed (Err stop.NoMemory) h = tt
 
 -- the run begins
-pub starts_kept : (s : Setting) (es : List Event) (first : Option (List Answer)) (over : Bool) (passed : List Passed) (j : JournalOf) → passed ≡ [] → j.events ≡ es
+pub starts_kept : (s : Setting) (es : List Event) (first : Option (List Answer)) (over : Bool) (passed : List Passed) (j : KnownJournalOf) → passed ≡ [] → j.events ≡ es
     → KeepsTo s es first first over passed j
 starts_kept s es first over passed j none same =
     let there : KeepsPassed s es first first over [] (due 1 es) = record { runs = here (due 1 es) first; said = λ steady open_still. said_none s (due 1 es) first; each = tt } in
@@ -216,7 +216,7 @@ starts_kept s es first over passed j none same =
     (subst (λ (x : List Event). KeepsPassed s es first first over [] (due 1 x)) (sym same) there)
 
 -- as many transitions were made as are allowed
-module _ (s : Setting) (es : List Event) (first left : Option (List Answer)) (over : Bool) (passed : List Passed) (j : JournalOf) (keeps : KeepsTo s es first left over passed j)
+module _ (s : Setting) (es : List Event) (first left : Option (List Answer)) (over : Bool) (passed : List Passed) (j : KnownJournalOf) (keeps : KeepsTo s es first left over passed j)
     (most : ℕ) (all : length passed ≡ most) (journal : Journal) (leaves : journal ≡ plain_of j) where
   pub most_kept : Runs s.cluster s.promotions s.whole (due 1 es) first (all_passed_lines s.cluster journal.events 1 passed) (due (most + 1) journal.events) left
   most_kept =
@@ -237,7 +237,7 @@ module _ (s : Setting) (es : List Event) (first left : Option (List Answer)) (ov
   }
 
 -- between two transitions it is at rest
-pub kept_at_rest : (s : Setting) (es : List Event) (first left : Option (List Answer)) (over : Bool) (passed : List Passed) (j : JournalOf)
+pub kept_at_rest : (s : Setting) (es : List Event) (first left : Option (List Answer)) (over : Bool) (passed : List Passed) (j : KnownJournalOf)
     → IsSafeRun s.cluster s.promotions s.whole es first → KeepsTo s es first left over passed j → IsAtRest j.events
 kept_at_rest s es first left over passed j safe keeps =
     at_rest s.cluster s.promotions s.whole es (due (1 + length passed) j.events) first left (all_passed_lines s.cluster j.events 1 passed) safe keeps.runs tt

@@ -13,10 +13,10 @@ use Rattle.cluster_types.specs.declared.run.PassedEnd.{PassedEnd}
 use Rattle.cluster_types.specs.Plans.{IsPlan, transition_of}
 use Rattle.cluster_types.specs.Steps.{Transition}
 use Rattle.cluster_types.specs.Texts.{between}
-use Rattle.run_safety.specs.Kept.{AreWithin}
+use Rattle.run_safety.specs.KeptLines.{AreWithin}
 use Rattle.run_safety.proofs.Kept.{between_new, between_same}
 use Rattle.run_safety.proofs.KeptRuns.{fits_more, placed_fits}
-use Rattle.graph_exec.specs.Kept.{IsPassedOfPlan, StandsSo}
+use Rattle.graph_exec.specs.KeptRuns.{IsPassedOfPlan, StandsSo}
 
 stands_there : (t u : Transition) (since later : List Event) (end : PassedEnd) → t ≡ u → since ≡ later → StandsSo t since end → StandsSo u later end
 stands_there t u since later end same like h =

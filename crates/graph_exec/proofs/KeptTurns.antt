@@ -16,7 +16,7 @@ use Rattle.cluster_types.specs.declared.run.PassedEnd.{PassedEnd}
 use Rattle.cluster_types.specs.declared.run.PassedEnd.TheVariants as passed_as
 use Rattle.cluster_types.specs.declared.run.RunLine.{RunLine}
 use Rattle.cluster_types.specs.declared.run.RunLine.TheVariants as line
-use Rattle.cluster_types.specs.Answering.{applies_after}
+use Rattle.cluster_types.specs.AnswersThatApply.{applies_after}
 use Rattle.cluster_types.specs.Graphs.{GraphOf}
 use Rattle.cluster_types.specs.Plans.{CarriesOut, transition_on}
 use Rattle.cluster_types.specs.Runs.{RunStanding, due, amid, idle, completes, aborts, Runs, here, journal_at}
@@ -25,10 +25,10 @@ use Rattle.cluster_types.specs.Steps.{Transition, HasEnded, IsWaiting, in_flight
 use Rattle.cluster_types.specs.Tables.{targets_of}
 use Rattle.cluster_types.specs.Texts.{all_passed_lines, end_lines, event_lines, target_lines}
 use Rattle.cluster_types.proofs.SourceLaws.{carries-out}
-use Rattle.graph_exec.specs.Logs.{JournalOf}
-use Rattle.graph_exec.specs.Running.{Running, Went, going}
-use Rattle.graph_exec.specs.Inner.Running.{running_journal}
-use Rattle.graph_exec.specs.Transitions.{IsAborted, IsComplete, IsCutBy, WentAsSaid, WentTo}
+use Rattle.graph_exec.specs.KnownJournals.{KnownJournalOf}
+use Rattle.graph_exec.specs.Executors.{ExecutorOf, Went, transition_in}
+use Rattle.graph_exec.specs.Inner.ExecutorFields.{running_journal}
+use Rattle.graph_exec.specs.Transitions.{IsAborted, IsComplete, IsCutBy, WentAsSaid, WentBeforeSaid}
 use Rattle.graph_exec.proofs.Beginning.{found_so}
 use Rattle.graph_exec.proofs.Said.{taken_none}
 use Rattle.run_safety.proofs.Kept.{one_passed_more}
@@ -36,8 +36,8 @@ use Rattle.run_safety.proofs.SoFar.{runs_joined, runs_once}
 use Rattle.graph_exec.specs.declared.run.stop.ReplayStop.{ReplayStop}
 use Rattle.graph_exec.specs.declared.run.idling.Taken.{Taken}
 use Rattle.graph_exec.specs.declared.run.planning.Planned.{Planned}
-use Rattle.graph_exec.specs.Inner.Keeping.{IsAnswered, IsUnanswered, KeepsPassed, KeepsCut, KeepsEnd, KeepsSoFar, KeepsTo}
-use Rattle.graph_exec.specs.Kept.{IsPassedOfPlan, StandsSo}
+use Rattle.graph_exec.specs.Inner.KeptTransitions.{IsAnswered, IsUnanswered, KeepsPassed, KeepsCut, KeepsEnd, KeepsSoFar, KeepsTo}
+use Rattle.graph_exec.specs.KeptRuns.{IsPassedOfPlan, StandsSo}
 use Rattle.graph_exec.specs.Replays.{Setting, setting}
 use Rattle.graph_exec.specs.Inner.Turns.{IsReady, IsSaid, left_of}
 use Rattle.graph_exec.proofs.Joined.{said_then}
@@ -45,7 +45,7 @@ use Rattle.graph_exec.proofs.KeptEnds.{kept_answered, kept_unanswered}
 use Rattle.graph_exec.proofs.KeptPlans.{each_more, newly_of_plan, passed_by, within_each}
 use Rattle.graph_exec.proofs.Ready.{carries}
 use Rattle.graph_exec.proofs.Steps.{part_runs, part_said, planned_said, planned_step}
-use Rattle.graph_exec.specs.Telling.{plan_lines}
+use Rattle.graph_exec.specs.WatcherLines.{plan_lines}
 
 -- the lines of a transition that is kept, by its number and its events
 abbrev pub lines_of_passed : Cluster → ℕ → List Event → Passed → List RunLine
@@ -53,7 +53,7 @@ lines_of_passed c k since p =
     ((line.Transition k ∷ target_lines c p.pins (targets_of p.table) p.none) ++ flat_map event_lines since) ++ end_lines c k p.end
 
 -- nothing of a graph has begun
-abbrev pub begun_on : Setting → List Event → GraphOf → Running
+abbrev pub begun_on : Setting → List Event → GraphOf → ExecutorOf
 begun_on s es g = record { cluster = s.cluster; graph = g; planned_at = es; since = []; promotions = s.promotions }
 
 module _ (s : Setting) (es : List Event) (first rest : Option (List Answer)) (over : Bool) (passed : List Passed) (before : List Event)
@@ -79,7 +79,7 @@ module _ (s : Setting) (es : List Event) (first rest : Option (List Answer)) (ov
             (each_more s.cluster s.promotions before since passed keeps.each) (is, tt));
       }
 
-  module _ (placed : Placed) (g : GraphOf) (out : CarriesOut s.cluster before s.promotions placed g) (now : Running) where
+  module _ (placed : Placed) (g : GraphOf) (out : CarriesOut s.cluster before s.promotions placed g) (now : ExecutorOf) where
     abbrev number : ℕ
     number = 1 + length passed
 
@@ -120,10 +120,10 @@ module _ (s : Setting) (es : List Event) (first rest : Option (List Answer)) (ov
           (λ steady open_still. said_then s (due number before) (amid number on now.since) at here_lines (end_lines s.cluster number how) rest left left
           (said_there left (said steady open_still)) (record { answers = []; runs = λ ys. close false (Some ys); taken = taken_none left }))
 
-      same_going : going now ≡ on
-      same_going = ap going went.same
+      same_going : transition_in now ≡ on
+      same_going = ap transition_in went.same
 
-      pub kept_complete : HasEnded (going now) now.since → has_aborted (going now) now.since ≡ false
+      pub kept_complete : HasEnded (transition_in now) now.since → has_aborted (transition_in now) now.since ≡ false
           → KeepsPassed s es first left over_now (passed ++ passed_by placed from to passed_as.Complete ∷ []) (idle number (before ++ now.since))
       kept_complete ended unaborted =
           let over_there = subst (λ (t : Transition). HasEnded t now.since) same_going ended in
@@ -131,7 +131,7 @@ module _ (s : Setting) (es : List Event) (first rest : Option (List Answer)) (ov
           closed_so passed_as.Complete (idle number (before ++ now.since)) refl (over_there, not_aborted)
           (λ w xs. runs_once s.cluster s.promotions w _ _ xs xs (line.Complete number ∷ []) (completes number on now.since xs over_there not_aborted))
 
-      pub kept_aborted : HasEnded (going now) now.since → has_aborted (going now) now.since ≡ true
+      pub kept_aborted : HasEnded (transition_in now) now.since → has_aborted (transition_in now) now.since ≡ true
           → KeepsPassed s es first left over_now (passed ++ passed_by placed from to passed_as.Aborted ∷ []) (due (number + 1) (before ++ now.since))
       kept_aborted ended aborted =
           let over_there = subst (λ (t : Transition). HasEnded t now.since) same_going ended in
@@ -139,18 +139,18 @@ module _ (s : Setting) (es : List Event) (first rest : Option (List Answer)) (ov
           closed_so passed_as.Aborted (due (number + 1) (before ++ now.since)) refl (over_there, has)
           (λ w xs. runs_once s.cluster s.promotions w _ _ xs xs (line.Aborted number ∷ []) (aborts number on now.since xs over_there has))
 
-      pub kept_cut : IsWaiting (going now) now.since
+      pub kept_cut : IsWaiting (transition_in now) now.since
           → KeepsPassed s es first left over_now (passed ++ passed_by placed from to passed_as.Cut ∷ []) (amid number on now.since)
       kept_cut waiting =
           closed_so passed_as.Cut (amid number on now.since) refl (subst (λ (t : Transition). IsWaiting t now.since) same_going waiting)
           (λ w xs. here (amid number on now.since) xs)
 
 -- the transition that is planned, from its plan to its end, where it is the last that is kept
-module _ (j : JournalOf) (p : Planned) (ready : IsReady j p) (whole steady : Bool) (es : List Event) (first rest : Option (List Answer)) (over : Bool) (passed : List Passed) where
+module _ (j : KnownJournalOf) (p : Planned) (ready : IsReady j p) (whole steady : Bool) (es : List Event) (first rest : Option (List Answer)) (over : Bool) (passed : List Passed) where
   abbrev here_set : Setting
   here_set = setting j.cluster j.promotions whole steady
 
-  module _ (keeps : KeepsPassed here_set es first rest over passed (due (1 + length passed) j.events)) (now : Running) (from to : ℕ) (begins : from ≡ length j.events)
+  module _ (keeps : KeepsPassed here_set es first rest over passed (due (1 + length passed) j.events)) (now : ExecutorOf) (from to : ℕ) (begins : from ≡ length j.events)
       (ends : to ≡ length (now.planned_at ++ now.since)) (q : Passed) (how : PassedEnd) (is : q ≡ passed_by p.placed from to how)
       (all : List Passed) (added : all ≡ passed ++ q ∷ []) where
     all_are : (ending : PassedEnd) → how ≡ ending → passed ++ passed_by p.placed from to ending ∷ [] ≡ all
@@ -161,22 +161,22 @@ module _ (j : JournalOf) (p : Planned) (ready : IsReady j p) (whole steady : Boo
 
     module _ (left : Option (List Answer)) (went : Went whole p.executor now rest left) where
       went_fresh : Went whole (begun_on here_set j.events p.executor.graph) now rest left
-      went_fresh = subst (λ (r : Running). Went whole r now rest left) ready.fresh went
+      went_fresh = subst (λ (r : ExecutorOf). Went whole r now rest left) ready.fresh went
 
       said_fresh : WentAsSaid p.executor now rest left → WentAsSaid (begun_on here_set j.events p.executor.graph) now rest left
-      said_fresh w = subst (λ (r : Running). WentAsSaid r now rest left) ready.fresh w
+      said_fresh w = subst (λ (r : ExecutorOf). WentAsSaid r now rest left) ready.fresh w
 
       planned_same : now.planned_at ≡ j.events
-      planned_same = ap (λ (r : Running). r.planned_at) went_fresh.same
+      planned_same = ap (λ (r : ExecutorOf). r.planned_at) went_fresh.same
 
       ends_there : to ≡ length j.events + length now.since
       ends_there = ends ∙ length-append now.planned_at now.since ∙ ap (λ (x : List Event). length x + length now.since) planned_same
 
-      known_events : (later : JournalOf) → later ≡ running_journal now → j.events ++ now.since ≡ later.events
-      known_events later e = sym (ap (λ (x : JournalOf). x.events) e ∙ ap (λ (x : List Event). x ++ now.since) planned_same)
+      known_events : (later : KnownJournalOf) → later ≡ running_journal now → j.events ++ now.since ≡ later.events
+      known_events later e = sym (ap (λ (x : KnownJournalOf). x.events) e ∙ ap (λ (x : List Event). x ++ now.since) planned_same)
 
       module _ (over_now : Bool) (stays : steady ≡ true → over ≡ true → over_now ≡ true) (said : steady ≡ true → over_now ≡ false → WentAsSaid p.executor now rest left) where
-        idle_there : how ≡ passed_as.Complete → IsComplete now → (later : JournalOf) → later ≡ running_journal now
+        idle_there : how ≡ passed_as.Complete → IsComplete now → (later : KnownJournalOf) → later ≡ running_journal now
             → KeepsPassed here_set es first left over_now all (idle (1 + length passed) later.events)
         idle_there e complete later known =
             subst (λ (x : List Passed). KeepsPassed here_set es first left over_now x (idle (1 + length passed) later.events)) (all_are passed_as.Complete e)
@@ -186,25 +186,25 @@ module _ (j : JournalOf) (p : Planned) (ready : IsReady j p) (whole steady : Boo
             (λ always open_still. said_fresh (said always open_still)) from to begins ends_there complete.ended complete.unaborted))
 
         -- an answer came while nothing was to be done
-        pub goes_on_answered : how ≡ passed_as.Complete → IsComplete now → (later : JournalOf) → later ≡ running_journal now → (unread : Option (List Answer)) (over_then : Bool)
+        pub goes_on_answered : how ≡ passed_as.Complete → IsComplete now → (later : KnownJournalOf) → later ≡ running_journal now → (unread : Option (List Answer)) (over_then : Bool)
             → (steady ≡ true → over_now ≡ true → over_then ≡ true) → (taken : Taken) → IsAnswered whole later left unread taken
             → KeepsTo here_set es first unread over_then all taken.journal
         goes_on_answered e complete later known unread over_then still taken w =
             let longer = one_longer in
             subst (λ (k : ℕ). KeepsPassed here_set es first unread over_then all (due k taken.journal.events)) (omega (arith, longer))
             (kept_answered here_set es first left unread over_now all (1 + length passed) later
-            (ap (λ (x : JournalOf). x.cluster) known ∙ ap (λ (r : Running). r.cluster) went_fresh.same) (idle_there e complete later known)
+            (ap (λ (x : KnownJournalOf). x.cluster) known ∙ ap (λ (r : ExecutorOf). r.cluster) went_fresh.same) (idle_there e complete later known)
             over_then still (omega (arith, longer)) taken.answer w.said taken.journal w.took)
 
         -- none came that applies
-        pub ends_unanswered_there : how ≡ passed_as.Complete → IsComplete now → (later : JournalOf) → later ≡ running_journal now → (unread : Option (List Answer))
+        pub ends_unanswered_there : how ≡ passed_as.Complete → IsComplete now → (later : KnownJournalOf) → later ≡ running_journal now → (unread : Option (List Answer))
             → (end : Result Journal (ReplayStop Journal)) → IsUnanswered whole later left unread over_now end → KeepsEnd here_set es first unread all end
         ends_unanswered_there e complete later known unread end w =
             kept_unanswered here_set es first left unread over_now all (1 + length passed) later
-            (ap (λ (x : JournalOf). x.cluster) known ∙ ap (λ (r : Running). r.cluster) went_fresh.same) (idle_there e complete later known)
-            (ap (λ (x : JournalOf). x.promotions) known ∙ ap (λ (r : Running). r.promotions) went_fresh.same) end w
+            (ap (λ (x : KnownJournalOf). x.cluster) known ∙ ap (λ (r : ExecutorOf). r.cluster) went_fresh.same) (idle_there e complete later known)
+            (ap (λ (x : KnownJournalOf). x.promotions) known ∙ ap (λ (r : ExecutorOf). r.promotions) went_fresh.same) end w
 
-        pub goes_on_aborted : (event : Event) → how ≡ passed_as.Aborted → IsAborted now event → (later : JournalOf) → later ≡ running_journal now
+        pub goes_on_aborted : (event : Event) → how ≡ passed_as.Aborted → IsAborted now event → (later : KnownJournalOf) → later ≡ running_journal now
             → KeepsTo here_set es first left over_now all later
         goes_on_aborted event e aborted later known =
             let longer = one_longer in
@@ -216,7 +216,7 @@ module _ (j : JournalOf) (p : Planned) (ready : IsReady j p) (whole steady : Boo
             (λ always open_still. said_fresh (said always open_still)) from to begins ends_there aborted.ended
             (found_so (steps.aborts now.cluster) now.since (Some event) aborted.first_is))))
 
-        cut_there : how ≡ passed_as.Cut → IsWaiting (going now) now.since
+        cut_there : how ≡ passed_as.Cut → IsWaiting (transition_in now) now.since
             → KeepsPassed here_set es first left over_now all (amid (1 + length passed) (transition_on j.cluster p.executor.graph j.events) now.since)
         cut_there e waiting =
             subst (λ (x : List Passed). KeepsPassed here_set es first left over_now x (amid (1 + length passed) (transition_on j.cluster p.executor.graph j.events) now.since))
@@ -227,13 +227,13 @@ module _ (j : JournalOf) (p : Planned) (ready : IsReady j p) (whole steady : Boo
       leaves_there : (journal : Journal) → journal ≡ left_of now → journal ≡ record { events = j.events ++ now.since; promotions = j.promotions }
       leaves_there journal e =
           e ∙ ap (λ (x : List Event). record { events = x ++ now.since; promotions = now.promotions }) planned_same
-          ∙ ap (λ (x : List Promotion). record { events = j.events ++ now.since; promotions = x }) (ap (λ (r : Running). r.promotions) went_fresh.same)
+          ∙ ap (λ (x : List Promotion). record { events = j.events ++ now.since; promotions = x }) (ap (λ (r : ExecutorOf). r.promotions) went_fresh.same)
 
-      going_there : going now ≡ transition_on j.cluster p.executor.graph j.events
-      going_there = ap going went_fresh.same
+      going_there : transition_in now ≡ transition_on j.cluster p.executor.graph j.events
+      going_there = ap transition_in went_fresh.same
 
     -- the source failed
-    pub ends_failed : (left : Option (List Answer)) → Went whole p.executor now rest left → how ≡ passed_as.Cut → IsWaiting (going now) now.since
+    pub ends_failed : (left : Option (List Answer)) → Went whole p.executor now rest left → how ≡ passed_as.Cut → IsWaiting (transition_in now) now.since
         → (steady ≡ true → WentAsSaid p.executor now rest left) → (steady ≡ true → over ≡ false) → (journal : Journal) → journal ≡ left_of now
         → KeepsSoFar here_set es first left all journal
     ends_failed left went e waiting said not_over journal leaves = record {
@@ -244,7 +244,7 @@ module _ (j : JournalOf) (p : Planned) (ready : IsReady j p) (whole steady : Boo
     }
 
     -- an answer came that doesn't apply
-    pub ends_cut : (left : Option (List Answer)) (given : Answer) → WentTo whole p.executor now rest left given → how ≡ passed_as.Cut → IsCutBy now given
+    pub ends_cut : (left : Option (List Answer)) (given : Answer) → WentBeforeSaid whole p.executor now rest left given → how ≡ passed_as.Cut → IsCutBy now given
         → (journal : Journal) → journal ≡ left_of now → KeepsCut here_set es first left all journal given
     ends_cut left given w e by journal leaves =
         let same = going_there w.before w.went in

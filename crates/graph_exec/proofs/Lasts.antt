@@ -12,12 +12,12 @@ use Rattle.graph_exec.specs.declared.transition.watcher.Heard.{Heard}
 use Rattle.graph_exec.specs.declared.transition.watcher.Heard.TheVariants as heard
 use Rattle.graph_exec.specs.declared.transition.watcher.Watcher.{Ghosts as WatcherOf}
 use Rattle.graph_exec.specs.Counts.{CountsAnswer}
-use Rattle.graph_exec.specs.Lasting.{LastWord, none_failed, word_is, word_open, HasSourceCome, IsFailureCounted, IsStopCounted, SourceLasts, WatcherLasts, transition_word}
+use Rattle.graph_exec.specs.LastWords.{LastWord, none_failed, word_is, word_open, HasSourceCome, IsFailureCounted, IsStopCounted, SourceLasts, WatcherLasts, transition_word}
 use Rattle.graph_exec.specs.Inner.Rounds.{StopsAs}
-use Rattle.graph_exec.specs.Running.{Running}
-use Rattle.graph_exec.specs.Saying.{IsOverBy}
-use Rattle.graph_exec.specs.Transitions.{HasGoneToEnd}
-use Rattle.graph_exec.specs.Watching.{heard_at}
+use Rattle.graph_exec.specs.Executors.{ExecutorOf}
+use Rattle.graph_exec.specs.SourceDuties.{IsOverBy}
+use Rattle.graph_exec.specs.Transitions.{EndedByItself}
+use Rattle.graph_exec.specs.WatchedTransitions.{heard_at}
 
 -- a count that rose later rose since
 pub rose_since : (before middle now : ℕ) → before ≤ middle → Rose middle now → Rose before now
@@ -150,7 +150,7 @@ module _ {A : Type 0} (s : OutcomesOf A) where
     }
 
     -- nothing more was to be done
-    pub source_done : (end : WatchedEnd) → HasGoneToEnd end → SourceLasts s old new none_failed → SourceLasts s old new (transition_word end)
+    pub source_done : (end : WatchedEnd) → EndedByItself end → SourceLasts s old new none_failed → SourceLasts s old new (transition_word end)
     source_done how.Complete d a = a
     source_done (how.Aborted event) d a = a
     source_done (how.Unexpected given) d a = absurd d
@@ -173,7 +173,7 @@ module _ {B : Type 0} (v : WatcherOf B) where
     watcher_told said same count cause = record { same_lines = same; stops = count; cause = stop_said _ _ said cause }
 
     -- nothing more was to be done
-    pub watcher_done : (end : WatchedEnd) → HasGoneToEnd end → WatcherLasts v old new heard.Go → WatcherLasts v old new (heard_at end)
+    pub watcher_done : (end : WatchedEnd) → EndedByItself end → WatcherLasts v old new heard.Go → WatcherLasts v old new (heard_at end)
     watcher_done how.Complete d a = a
     watcher_done (how.Aborted event) d a = a
     watcher_done (how.Unexpected given) d a = absurd d
@@ -181,7 +181,7 @@ module _ {B : Type 0} (v : WatcherOf B) where
     watcher_done how.Stopped d a = absurd d
 
     -- no answer was taken
-    module _ (whole : Bool) (was now : Running) (rest left : Option (List Answer)) where
+    module _ (whole : Bool) (was now : ExecutorOf) (rest left : Option (List Answer)) where
       pub watcher_untold : (end : WatchedEnd) → StopsAs whole was now rest left end → WatcherLasts v old new heard.Go → WatcherLasts v old new (heard_at end)
       watcher_untold how.Complete d a = a
       watcher_untold (how.Aborted event) d a = a

@@ -8,15 +8,15 @@ use Rattle.std.specs.Prelude.{Bool, Option, Result, Ok, Err, List}
 use Rattle.graph_exec.specs.declared.transition.outcomes.Outcomes.{Ghosts as OutcomesOf}
 use Rattle.graph_exec.specs.declared.transition.watcher.Heard.TheVariants as heard
 use Rattle.graph_exec.specs.declared.transition.watcher.Watcher.{Ghosts as WatcherOf}
-use Rattle.graph_exec.specs.Inner.Keeping.{IsUnanswered, kept_end}
-use Rattle.graph_exec.specs.Logs.{JournalOf}
-use Rattle.graph_exec.specs.Kept.{kept_word}
-use Rattle.graph_exec.specs.Lasting.{none_failed, SourceLasts, WatcherLasts}
+use Rattle.graph_exec.specs.Inner.KeptTransitions.{IsUnanswered, kept_end}
+use Rattle.graph_exec.specs.KnownJournals.{KnownJournalOf}
+use Rattle.graph_exec.specs.KeptRuns.{kept_word}
+use Rattle.graph_exec.specs.LastWords.{none_failed, SourceLasts, WatcherLasts}
 use Rattle.graph_exec.specs.Replays.{replay_heard, replay_word}
 use Rattle.graph_exec.proofs.Lasts.{source_open}
 
 -- a watcher that isn't told goes on
-pub watcher_unanswered : {B : Type 0} (v : WatcherOf B) (old new : B) (whole : Bool) (j : JournalOf) (rest left : Option (List Answer)) (over : Bool)
+pub watcher_unanswered : {B : Type 0} (v : WatcherOf B) (old new : B) (whole : Bool) (j : KnownJournalOf) (rest left : Option (List Answer)) (over : Bool)
     (end : Result Journal (ReplayStop Journal)) → IsUnanswered whole j rest left over end → WatcherLasts v old new heard.Go → WatcherLasts v old new (replay_heard end)
 watcher_unanswered v old new whole j rest left over (Ok journal) w a = a
 watcher_unanswered v old new whole j rest left over (Err (stop.Unexpected journal given)) w a = a

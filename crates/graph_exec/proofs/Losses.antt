@@ -10,11 +10,11 @@ use Rattle.cluster_types.specs.declared.journal.Action.{Action}
 use Rattle.cluster_types.specs.declared.journal.Event.{Event}
 use Rattle.cluster_types.specs.declared.journal.Event.TheVariants.{Ended}
 use Rattle.cluster_types.specs.declared.journal.Outcome.TheVariants.{Gone}
-use Rattle.cluster_types.specs.Answering.{end_event}
+use Rattle.cluster_types.specs.AnswersThatApply.{end_event}
 use Rattle.cluster_types.specs.Journals.{is_on, moment_of, seconds_of}
 use Rattle.cluster_types.specs.Steps.{ended, numbers_in_flight, in_flight_by_number, is_from_outside, is_number_in_flight, count_from_outside}
-use Rattle.graph_exec.specs.Running.{Running, going, later}
-use Rattle.graph_exec.specs.Inner.Running.{all_gone}
+use Rattle.graph_exec.specs.Executors.{ExecutorOf, transition_in, later}
+use Rattle.graph_exec.specs.Inner.ExecutorFields.{all_gone}
 use Rattle.run_safety.proofs.ByNumber.{action_of, with_action}
 use Rattle.graph_exec.proofs.Flying.{StandsAt, event, flying_is, gone_is, rest_same}
 
@@ -27,12 +27,12 @@ gone_more : (actions : List Action) (n m k : ℕ) (ks : List ℕ) (b : Bool) →
 gone_more actions n m k ks true e = rw e refl
 gone_more actions n m k ks false e = rw e refl
 
-gone_all : (r : Running) (n : ℕ) (ks : List ℕ) → gone_of r.graph.actions n (moment_of (r.planned_at ++ r.since)) ks
-    ≡ map (end_event r.cluster (r.planned_at ++ r.since) (in_flight_by_number (going r) r.since) Gone) (filter (λ (p : ℕ × Action). is_on n p.1) (map (with_action r.graph.actions) ks))
+gone_all : (r : ExecutorOf) (n : ℕ) (ks : List ℕ) → gone_of r.graph.actions n (moment_of (r.planned_at ++ r.since)) ks
+    ≡ map (end_event r.cluster (r.planned_at ++ r.since) (in_flight_by_number (transition_in r) r.since) Gone) (filter (λ (p : ℕ × Action). is_on n p.1) (map (with_action r.graph.actions) ks))
 gone_all r n [] = refl
 gone_all r n (k ∷ ks) = on (is_on n (action_of r.graph.actions k)) refl (gone_all r n ks) where
   ends : ℕ × Action → Event
-  ends = end_event r.cluster (r.planned_at ++ r.since) (in_flight_by_number (going r) r.since) Gone
+  ends = end_event r.cluster (r.planned_at ++ r.since) (in_flight_by_number (transition_in r) r.since) Gone
 
   here : ℕ × Action → Bool
   here p = is_on n p.1
@@ -44,26 +44,26 @@ gone_all r n (k ∷ ks) = on (is_on n (action_of r.graph.actions k)) refl (gone_
   on false e rest = rw e rest
 
 -- what was ended so far, and what is left to end, are together what is to be ended
-pub record Losing (before now : Running) (n place : ℕ) : Type 0 where
+pub record Losing (before now : ExecutorOf) (n place : ℕ) : Type 0 where
   pub so_far : List Event
   pub is : now ≡ later before so_far
-  pub sum : so_far ++ gone_of before.graph.actions n (moment_of (before.planned_at ++ before.since)) (drop place (numbers_in_flight (going now) now.since))
-      ≡ gone_of before.graph.actions n (moment_of (before.planned_at ++ before.since)) (numbers_in_flight (going before) before.since)
+  pub sum : so_far ++ gone_of before.graph.actions n (moment_of (before.planned_at ++ before.since)) (drop place (numbers_in_flight (transition_in now) now.since))
+      ≡ gone_of before.graph.actions n (moment_of (before.planned_at ++ before.since)) (numbers_in_flight (transition_in before) before.since)
   pub moment : moment_of (now.planned_at ++ now.since) ≡ moment_of (before.planned_at ++ before.since)
 
-module _ (before : Running) (n : ℕ) where
+module _ (before : ExecutorOf) (n : ℕ) where
   pub losing_first : Losing before before n 0
   losing_first = record { so_far = []; is = rw (append-nil before.since) refl; sum = refl; moment = refl }
 
-  module _ (now : Running) (place : ℕ) (l : Losing before now n place) where
+  module _ (now : ExecutorOf) (place : ℕ) (l : Losing before now n place) where
     module _ (k : ℕ) (a : Action) (s : StandsAt now place k a) where
-      ahead : drop place (numbers_in_flight (going now) now.since) ≡ k ∷ drop (place + 1) (numbers_in_flight (going now) now.since)
+      ahead : drop place (numbers_in_flight (transition_in now) now.since) ≡ k ∷ drop (place + 1) (numbers_in_flight (transition_in now) now.since)
       ahead =
-          drop_more (numbers_in_flight (going now) now.since) place k (slice_get_within _ place k s.number)
-          ∙ ap (λ j. j ∷ drop (place + 1) (numbers_in_flight (going now) now.since)) (get_or_from_slice_get _ place k k s.number)
+          drop_more (numbers_in_flight (transition_in now) now.since) place k (slice_get_within _ place k s.number)
+          ∙ ap (λ j. j ∷ drop (place + 1) (numbers_in_flight (transition_in now) now.since)) (get_or_from_slice_get _ place k k s.number)
 
       same_action : a ≡ action_of before.graph.actions k
-      same_action = s.action ∙ ap (λ (r : Running). action_of r.graph.actions k) l.is
+      same_action = s.action ∙ ap (λ (r : ExecutorOf). action_of r.graph.actions k) l.is
 
       pub losing_pass : is_on n a ≡ false → Losing before now n (place + 1)
       losing_pass off = record {
@@ -71,7 +71,7 @@ module _ (before : Running) (n : ℕ) where
         is = l.is;
         sum =
             ap (λ (es : List Event). l.so_far ++ es)
-            (sym (gone_more before.graph.actions n (moment_of (before.planned_at ++ before.since)) k (drop (place + 1) (numbers_in_flight (going now) now.since)) false
+            (sym (gone_more before.graph.actions n (moment_of (before.planned_at ++ before.since)) k (drop (place + 1) (numbers_in_flight (transition_in now) now.since)) false
             (rw same_action at off)) ∙ ap (gone_of before.graph.actions n (moment_of (before.planned_at ++ before.since))) (sym ahead))
             ∙ l.sum;
         moment = l.moment;
@@ -81,7 +81,7 @@ module _ (before : Running) (n : ℕ) where
       m = moment_of (before.planned_at ++ before.since)
 
       abbrev rest : List ℕ
-      rest = drop (place + 1) (numbers_in_flight (going now) now.since)
+      rest = drop (place + 1) (numbers_in_flight (transition_in now) now.since)
 
       abbrev e : Event
       e = event now place k a s
@@ -89,10 +89,10 @@ module _ (before : Running) (n : ℕ) where
       same_event : e ≡ Ended k (action_of before.graph.actions k) Gone m
       same_event = rw (same_action, l.moment) refl
 
-      sum_now : is_on n a ≡ true → (l.so_far ++ e ∷ []) ++ gone_of before.graph.actions n m (drop place (numbers_in_flight (going now) (now.since ++ e ∷ [])))
-          ≡ gone_of before.graph.actions n m (numbers_in_flight (going before) before.since)
+      sum_now : is_on n a ≡ true → (l.so_far ++ e ∷ []) ++ gone_of before.graph.actions n m (drop place (numbers_in_flight (transition_in now) (now.since ++ e ∷ [])))
+          ≡ gone_of before.graph.actions n m (numbers_in_flight (transition_in before) before.since)
       sum_now on =
-          append_assoc l.so_far (e ∷ []) (gone_of before.graph.actions n m (drop place (numbers_in_flight (going now) (now.since ++ e ∷ []))))
+          append_assoc l.so_far (e ∷ []) (gone_of before.graph.actions n m (drop place (numbers_in_flight (transition_in now) (now.since ++ e ∷ []))))
           ∙ ap (λ (ks : List ℕ). l.so_far ++ e ∷ gone_of before.graph.actions n m ks) (rest_same now place k a s)
           ∙ ap (λ (x : Event). l.so_far ++ x ∷ gone_of before.graph.actions n m rest) same_event
           ∙ ap (λ (es : List Event). l.so_far ++ es) (sym (gone_more before.graph.actions n m k rest true (rw same_action at on)))
@@ -108,25 +108,25 @@ module _ (before : Running) (n : ℕ) where
 
       later_now : later now (e ∷ []) ≡ later before (l.so_far ++ e ∷ [])
       later_now =
-          ap (λ (r : Running). later r (e ∷ [])) l.is
+          ap (λ (r : ExecutorOf). later r (e ∷ [])) l.is
           ∙ ap (λ (es : List Event). record { cluster = before.cluster; graph = before.graph; planned_at = before.planned_at; since = es; promotions = before.promotions })
           (append_assoc before.since l.so_far (e ∷ []))
 
       losing_on : is_on n a ≡ true → Losing before (later now (e ∷ [])) n place
       losing_on on = record { so_far = l.so_far ++ e ∷ []; is = later_now; sum = sum_now on; moment = moment_now }
 
-      pub losing_end : is_on n a ≡ true → Losing before (later now (ended (going now) now.since k Gone)) n place
+      pub losing_end : is_on n a ≡ true → Losing before (later now (ended (transition_in now) now.since k Gone)) n place
       losing_end on = rw (gone_is now place k a s) (losing_on on)
 
     -- at the end all is ended
-    pub losing_done : length (numbers_in_flight (going now) now.since) ≤ place → now ≡ later before (all_gone before n)
+    pub losing_done : length (numbers_in_flight (transition_in now) now.since) ≤ place → now ≡ later before (all_gone before n)
     losing_done past =
-        let none : drop place (numbers_in_flight (going now) now.since) ≡ [] = drop_all place (numbers_in_flight (going now) now.since) past in
+        let none : drop place (numbers_in_flight (transition_in now) now.since) ≡ [] = drop_all place (numbers_in_flight (transition_in now) now.since) past in
         let all : l.so_far ≡ all_gone before n
         = sym (append-nil l.so_far)
         ∙ ap (λ (ks : List ℕ). l.so_far ++ gone_of before.graph.actions n (moment_of (before.planned_at ++ before.since)) ks) (sym none)
-        ∙ l.sum ∙ gone_all before n (numbers_in_flight (going before) before.since)
-        ∙ ap (λ (ps : List (ℕ × Action)). map (end_event before.cluster (before.planned_at ++ before.since) (in_flight_by_number (going before) before.since) Gone) (filter (λ (p : ℕ × Action). is_on n p.1) ps))
+        ∙ l.sum ∙ gone_all before n (numbers_in_flight (transition_in before) before.since)
+        ∙ ap (λ (ps : List (ℕ × Action)). map (end_event before.cluster (before.planned_at ++ before.since) (in_flight_by_number (transition_in before) before.since) Gone) (filter (λ (p : ℕ × Action). is_on n p.1) ps))
         (sym (flying_is before)) in
         l.is ∙ ap (later before) all
 
@@ -148,14 +148,14 @@ inside actions n m p a (suc count) some = on (p a) (inside actions n m p (a + 1)
   on true rest = inside_on actions n m a (filter p (range_with_len (a + 1) count)) (is_on n (action_of actions a)) refl some rest
   on false rest = rest
 
-pub still_few : (r : Running) (n : ℕ) → count_from_outside (going r) (r.since ++ all_gone r n) ≡ count_from_outside (going r) r.since
+pub still_few : (r : ExecutorOf) (n : ℕ) → count_from_outside (transition_in r) (r.since ++ all_gone r n) ≡ count_from_outside (transition_in r) r.since
 still_few r n =
-    let listed : all_gone r n ≡ gone_of r.graph.actions n (moment_of (r.planned_at ++ r.since)) (numbers_in_flight (going r) r.since)
-    = ap (λ (ps : List (ℕ × Action)). map (end_event r.cluster (r.planned_at ++ r.since) (in_flight_by_number (going r) r.since) Gone) (filter (λ (p : ℕ × Action). is_on n p.1) ps)) (flying_is r)
-    ∙ sym (gone_all r n (numbers_in_flight (going r) r.since)) in
+    let listed : all_gone r n ≡ gone_of r.graph.actions n (moment_of (r.planned_at ++ r.since)) (numbers_in_flight (transition_in r) r.since)
+    = ap (λ (ps : List (ℕ × Action)). map (end_event r.cluster (r.planned_at ++ r.since) (in_flight_by_number (transition_in r) r.since) Gone) (filter (λ (p : ℕ × Action). is_on n p.1) ps)) (flying_is r)
+    ∙ sym (gone_all r n (numbers_in_flight (transition_in r) r.since)) in
     let none : count_by is_from_outside (all_gone r n) ≡ 0
     = ap (count_by is_from_outside) listed
-    ∙ inside r.graph.actions n (moment_of (r.planned_at ++ r.since)) (is_number_in_flight (going r) r.since) 1 (length r.graph.actions) (omega arith) in
+    ∙ inside r.graph.actions n (moment_of (r.planned_at ++ r.since)) (is_number_in_flight (transition_in r) r.since) 1 (length r.graph.actions) (omega arith) in
     let c : count_by is_from_outside (r.since ++ all_gone r n) ≡ count_by is_from_outside r.since + count_by is_from_outside (all_gone r n)
     = count-append is_from_outside r.since (all_gone r n) in
     let t : count_by is_from_outside (r.since ++ all_gone r n) ≡ count_by is_from_outside r.since = omega arith in

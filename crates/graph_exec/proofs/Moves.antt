@@ -7,10 +7,10 @@ use Rattle.std.proofs.lemmas.Map.Keys.{IsDistinct-push}
 use Rattle.std.proofs.lemmas.Option.{slice_get_within, get_or_from_slice_get}
 use Rattle.cluster_types.specs.Graphs.{GraphOf, IsGraph}
 use Rattle.listed.specs.Sets.{is_member, members}
-use Rattle.graph_exec.specs.Inner.Freed.{ClearsGates, ClearingRests}
+use Rattle.graph_exec.specs.Inner.ClearedPositions.{ClearsGates, ClearingRests}
 use Rattle.edges.specs.declared.side.Side.TheVariants.{After}
 use Rattle.edges.specs.Rows.{edges_at}
-use Rattle.graph_exec.specs.Ready.{startable}
+use Rattle.graph_exec.specs.ReadyActions.{startable}
 use Rattle.std.proofs.Math.Bool.{and-true, or-false}
 use Rattle.lemmas.proofs.Booleans.{sooner, later}
 use Rattle.lemmas.proofs.Counts.{count_agree}

@@ -15,7 +15,7 @@ use Rattle.cluster_types.specs.Tables.{Targets}
 use Rattle.cluster_types.specs.Valid.{IsValid}
 use Rattle.crm_lex.specs.Names.{is_name}
 use Rattle.plan_laws.proofs.Firsts.{first_in}
-use Rattle.graph_exec.specs.Telling.{ReasonsHaveNames}
+use Rattle.graph_exec.specs.WatcherLines.{ReasonsHaveNames}
 
 module _ (c : Cluster) (valid : IsValid c) where
   rule_named : (es : List Event) (table : Targets) (r node : ℕ) (id : List ℕ)

@@ -9,7 +9,7 @@ use Rattle.cluster_types.specs.Steps.{HasEnded, aborts, has_aborted}
 use Rattle.cluster_types.proofs.EagerLaws.{keeps-on, keeps-none}
 use Rattle.cluster_types.proofs.NeverStuck.{all-succeeded}
 use Rattle.cluster_types.proofs.Paths.{before-from_computed}
-use Rattle.graph_exec.specs.Running.{Running, IsUnderWay, going}
+use Rattle.graph_exec.specs.Executors.{ExecutorOf, IsUnderWay, transition_in}
 use Rattle.graph_exec.specs.Transitions.{IsComplete}
 use Rattle.graph_exec.proofs.Beginning.{found_so}
 
@@ -29,19 +29,19 @@ upward g graph j k e = on (before-from_computed g j k e) where
       let less = graph.actions_upward (j - 1) (k - 1) (omega (arith, low.0, low.1)) (omega (arith, other.0, other.1)) b.leads in
       omega (arith, less, low.0, other.0)
 
-module _ (r : Running) (u : IsUnderWay r) (ended : HasEnded (going r) r.since) (none : find (aborts r.cluster) r.since ≡ None) where
-  unaborted : has_aborted (going r) r.since ≡ false
+module _ (r : ExecutorOf) (u : IsUnderWay r) (ended : HasEnded (transition_in r) r.since) (none : find (aborts r.cluster) r.since ≡ None) where
+  unaborted : has_aborted (transition_in r) r.since ≡ false
   unaborted = found_so (aborts r.cluster) r.since None none
 
   no_gone : list_any is_gone r.since ≡ false
   no_gone = on (list_any is_gone r.since) refl where
     on : (b : Bool) → list_any is_gone r.since ≡ b → b ≡ false
-    on true e = let a = (keeps-on (going r) true [] r.since None None u.steps (keeps-none (going r))).gone_aborts e in let u = unaborted in cc
+    on true e = let a = (keeps-on (transition_in r) true [] r.since None None u.steps (keeps-none (transition_in r))).gone_aborts e in let u = unaborted in cc
     on false e = refl
 
   pub completes : IsComplete r
   completes = record {
     ended = ended;
     unaborted = unaborted;
-    succeeded = all-succeeded (going r) r.since (upward r.graph u.graph) unaborted no_gone ended.idle ended.settled;
+    succeeded = all-succeeded (transition_in r) r.since (upward r.graph u.graph) unaborted no_gone ended.idle ended.settled;
   }

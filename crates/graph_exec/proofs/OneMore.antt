@@ -12,8 +12,8 @@ use Rattle.listed.specs.Sets.{is_member}
 use Rattle.run_safety.proofs.Preceded.{success_ends}
 use Rattle.graph_exec.specs.Flights.{InFlightOf}
 use Rattle.graph_exec.specs.Inner.Logs.{LogOf, logged}
-use Rattle.graph_exec.specs.Running.{going}
-use Rattle.graph_exec.specs.Inner.Running.{IsNumberKept, InFlightFollows, running, events_to_come}
+use Rattle.graph_exec.specs.Executors.{transition_in}
+use Rattle.graph_exec.specs.Inner.ExecutorFields.{IsNumberKept, InFlightFollows, running, events_to_come}
 
 -- what is in flight after: what was or begins, and doesn't end
 flies_on : (begun ended begins ends : Bool) → (ended ≡ true → begun ≡ true) → (begins ≡ true → begun ≡ false)
@@ -47,17 +47,17 @@ module _ (log : LogOf) (f after : InFlightOf) (e : Event) (h : InFlightFollows l
     old : IsNumberKept log f j
     old = h.each j low high
 
-    begun_now : has_begun (going (running log f)) (log.since ++ e ∷ []) j ≡ (has_begun (going (running log f)) log.since j || begins_number j e)
+    begun_now : has_begun (transition_in (running log f)) (log.since ++ e ∷ []) j ≡ (has_begun (transition_in (running log f)) log.since j || begins_number j e)
     begun_now = any-more (begins_number j) log.since e
 
-    ended_now : has_number_ended (going (running log f)) (log.since ++ e ∷ []) j ≡ (has_number_ended (going (running log f)) log.since j || ends_number j e)
+    ended_now : has_number_ended (transition_in (running log f)) (log.since ++ e ∷ []) j ≡ (has_number_ended (transition_in (running log f)) log.since j || ends_number j e)
     ended_now = any-more (ends_number j) log.since e
 
-    succeeded_now : has_succeeded (going (running log f)) (log.since ++ e ∷ []) j
-        ≡ (has_succeeded (going (running log f)) log.since j || succeeds_number log.cluster j e)
+    succeeded_now : has_succeeded (transition_in (running log f)) (log.since ++ e ∷ []) j
+        ≡ (has_succeeded (transition_in (running log f)) log.since j || succeeds_number log.cluster j e)
     succeeded_now = any-more (succeeds_number log.cluster j) log.since e
 
-    kept_begun : is_member after.progress.begun j ≡ has_begun (going (running log f)) (log.since ++ e ∷ []) j
+    kept_begun : is_member after.progress.begun j ≡ has_begun (transition_in (running log f)) (log.since ++ e ∷ []) j
     kept_begun = a.begun j low high ∙ ap (λ (b : Bool). b || begins_number j e) old.begun ∙ sym begun_now
 
     kept : IsNumberKept (logged log e) after j
@@ -67,14 +67,14 @@ module _ (log : LogOf) (f after : InFlightOf) (e : Event) (h : InFlightFollows l
       in_flight =
           a.in_flight j low high
           ∙ ap (λ (b : Bool). (b || begins_number j e) && not (ends_number j e)) old.in_flight
-          ∙ sym (rw (begun_now, ended_now) (flies_on (has_begun (going (running log f)) log.since j) (has_number_ended (going (running log f)) log.since j)
+          ∙ sym (rw (begun_now, ended_now) (flies_on (has_begun (transition_in (running log f)) log.since j) (has_number_ended (transition_in (running log f)) log.since j)
           (begins_number j e) (ends_number j e) old.ended (λ b. sym old.begun ∙ a.fresh j low high b)));
-      ended = λ t. either (has_number_ended (going (running log f)) log.since j) (ends_number j e) (sym ended_now ∙ t)
+      ended = λ t. either (has_number_ended (transition_in (running log f)) log.since j) (ends_number j e) (sym ended_now ∙ t)
           (λ before. rw begun_now (rw (old.ended before) refl))
           (λ now. rw begun_now (rw (sym old.begun ∙ a.known j low high now) refl));
-      over = λ t. either (has_succeeded (going (running log f)) log.since j) (succeeds_number log.cluster j e) (sym succeeded_now ∙ t)
+      over = λ t. either (has_succeeded (transition_in (running log f)) log.since j) (succeeds_number log.cluster j e) (sym succeeded_now ∙ t)
           (λ before. rw ended_now (rw (old.over before) refl))
-          (λ now. rw ended_now (or_right (has_number_ended (going (running log f)) log.since j) (ends_number j e) (success_ends log.cluster j e now)));
+          (λ now. rw ended_now (or_right (has_number_ended (transition_in (running log f)) log.since j) (ends_number j e) (success_ends log.cluster j e now)));
     }
 
   pub follows_more : InFlightFollows (logged log e) after

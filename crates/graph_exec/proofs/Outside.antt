@@ -5,13 +5,13 @@ use Rattle.std.proofs.Math.Bool.{or-false}
 use Rattle.lemmas.proofs.Counts.{count-append}
 use Rattle.cluster_types.specs.declared.journal.Event.{Event}
 use Rattle.cluster_types.specs.declared.journal.Event.TheVariants.{Up, Down, Lost, Quorum, Wait, Cleanup, Begin, Ended}
-use Rattle.cluster_types.specs.Answering.{most_from_outside}
+use Rattle.cluster_types.specs.AnswersThatApply.{most_from_outside}
 use Rattle.cluster_types.specs.Journals.{ends_number}
 use Rattle.cluster_types.specs.Steps.{begins_number, succeeds_number, is_from_outside}
 use Rattle.listed.specs.Sets.{is_member}
 use Rattle.graph_exec.specs.Flights.{InFlightOf}
 use Rattle.graph_exec.specs.Inner.Logs.{LogOf}
-use Rattle.graph_exec.specs.Inner.Running.{InFlightFollows}
+use Rattle.graph_exec.specs.Inner.ExecutorFields.{InFlightFollows}
 use Rattle.graph_exec.proofs.Beginning.{one}
 use Rattle.graph_exec.proofs.OneMore.{Adds}
 

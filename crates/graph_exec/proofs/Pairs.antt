@@ -7,7 +7,7 @@ use Rattle.std.proofs.lemmas.Option.{slice_get-map, slice_get_within, get_or_fro
 use Rattle.std.specs.Prelude.{option_map}
 use Rattle.lemmas.proofs.Searches.{any-more}
 use Rattle.cluster_types.specs.declared.journal.Action.{Action}
-use Rattle.cluster_types.specs.Answering.{is_number_of}
+use Rattle.cluster_types.specs.AnswersThatApply.{is_number_of}
 use Rattle.listed.specs.Sets.{is_member, members}
 use Rattle.run_safety.proofs.ByNumber.{with_action, flat_is}
 use Rattle.graph_exec.specs.Flights.{InFlightOf, pairs_in_flight}

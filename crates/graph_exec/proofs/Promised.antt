@@ -14,7 +14,7 @@ use Rattle.run_safety.proofs.Safe.{is_safe, leaves_nothing, reaches_targets, sta
 use Rattle.graph_exec.specs.declared.transition.ends.WatchedEnd.{WatchedEnd}
 use Rattle.graph_exec.specs.declared.transition.ends.WatchedEnd.TheVariants as how
 use Rattle.graph_exec.specs.Promises.{EndsWell, IsGraphPlanned, KeepsBatchLimit, KeepsPromises}
-use Rattle.graph_exec.specs.Running.{Running, IsUnderWay, going}
+use Rattle.graph_exec.specs.Executors.{ExecutorOf, IsUnderWay, transition_in}
 use Rattle.graph_exec.specs.Transitions.{EndsAs}
 use Rattle.graph_exec.proofs.NeverStuck.{upward}
 
@@ -24,34 +24,34 @@ has_its_room t since k h =
     later (list_any (λ j. j == k) (numbers t) && not (has_aborted t since) && not (has_begun t since k)) (has_room t since)
     (sooner (list_any (λ j. j == k) (numbers t) && not (has_aborted t since) && not (has_begun t since k) && has_room t since) _ h)
 
-module _ (r : Running) (u : IsUnderWay r) where
-  keeps_batch_limit : KeepsBatchLimit (going r) r.since
+module _ (r : ExecutorOf) (u : IsUnderWay r) where
+  keeps_batch_limit : KeepsBatchLimit (transition_in r) r.since
   keeps_batch_limit =
-      at_each_begin (going r) true (λ before k a. has_room (going r) before ≡ true) (λ since k a b. has_its_room (going r) since k b.allowed) [] r.since None None u.steps
-      (λ before after k a q. no_begin (has_room (going r) before ≡ true) [] before after k a refl q)
+      at_each_begin (transition_in r) true (λ before k a. has_room (transition_in r) before ≡ true) (λ since k a b. has_its_room (transition_in r) since k b.allowed) [] r.since None None u.steps
+      (λ before after k a q. no_begin (has_room (transition_in r) before ≡ true) [] before after k a refl q)
 
   module _ (placed : Placed) (is : IsGraphPlanned r placed) where
-    of_plan : IsOfPlan r.promotions placed (going r)
+    of_plan : IsOfPlan r.promotions placed (transition_in r)
     of_plan = of_graph r.cluster r.planned_at r.promotions placed r.graph is.valid is.at_rest is.plan
 
-    rests : HasEnded (going r) r.since → IsAtRest (r.planned_at ++ r.since)
+    rests : HasEnded (transition_in r) r.since → IsAtRest (r.planned_at ++ r.since)
     rests ended = (
-      stays_in_order r.promotions placed (going r) of_plan true None None r.since u.steps,
-      leaves_nothing r.promotions placed (going r) of_plan true None None r.since u.steps ended.idle,
+      stays_in_order r.promotions placed (transition_in r) of_plan true None None r.since u.steps,
+      leaves_nothing r.promotions placed (transition_in r) of_plan true None None r.since u.steps ended.idle,
     )
 
   pub promised : KeepsPromises r
   promised = record {
-    predecessors = predecessors-first (going r) true None None r.since u.steps;
-    eager = eager (going r) true None None r.since (upward r.graph u.graph) u.steps;
+    predecessors = predecessors-first (transition_in r) true None None r.since u.steps;
+    eager = eager (transition_in r) true None None r.since (upward r.graph u.graph) u.steps;
     batch_limit = keeps_batch_limit;
-    safe = λ placed is. is_safe r.promotions placed (going r) (of_plan placed is) true None None r.since u.steps;
-    in_order = λ placed is. stays_in_order r.promotions placed (going r) (of_plan placed is) true None None r.since u.steps;
+    safe = λ placed is. is_safe r.promotions placed (transition_in r) (of_plan placed is) true None None r.since u.steps;
+    in_order = λ placed is. stays_in_order r.promotions placed (transition_in r) (of_plan placed is) true None None r.since u.steps;
   }
 
   pub ends_well : (end : WatchedEnd) → EndsAs r end → EndsWell r end
   ends_well how.Complete e = λ placed is.
-      (rests placed is e.ended, reaches_targets r.promotions placed (going r) (of_plan placed is) true None None r.since u.steps e.ended e.unaborted)
+      (rests placed is e.ended, reaches_targets r.promotions placed (transition_in r) (of_plan placed is) true None None r.since u.steps e.ended e.unaborted)
   ends_well (how.Aborted event) e = λ placed is. rests placed is e.ended
   ends_well (how.Unexpected given) e = tt
   ends_well how.SourceFault e = tt

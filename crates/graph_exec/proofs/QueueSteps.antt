@@ -8,7 +8,7 @@ use Rattle.std.proofs.lemmas.Map.Keys.{IsDistinct-push}
 use Rattle.std.proofs.lemmas.Map.Steps.{length-le_from_distinct_below}
 use Rattle.edges.specs.declared.edge.Edge.{Edge}
 use Rattle.cluster_types.specs.Graphs.{GraphOf, IsGraph}
-use Rattle.graph_exec.specs.Inner.Freed.{ClearsGates, gates_cleared_then, ready_then, edges_held}
+use Rattle.graph_exec.specs.Inner.ClearedPositions.{ClearsGates, gates_cleared_then, ready_then, edges_held}
 use Rattle.edges.specs.Rows.{edge_targets_of}
 use Rattle.std.proofs.Math.Bool.{or-false}
 use Rattle.lemmas.proofs.Booleans.{sooner}

@@ -8,14 +8,14 @@ use Rattle.cluster_types.specs.declared.run.RunLine.{RunLine}
 use Rattle.cluster_types.specs.declared.run.RunLine.TheVariants as line
 use Rattle.cluster_types.specs.Runs.{RunStanding, due, idle, answers, Runs, here}
 use Rattle.cluster_types.specs.Sources.{Says, told, used_up, untold}
-use Rattle.cluster_types.specs.Steps.{answer_events, resting}
-use Rattle.graph_exec.specs.Logs.{JournalOf}
-use Rattle.graph_exec.specs.Resting.{IsRefusedResting, TookResting}
+use Rattle.cluster_types.specs.Steps.{answer_events, idling}
+use Rattle.graph_exec.specs.KnownJournals.{KnownJournalOf}
+use Rattle.graph_exec.specs.IdleClusters.{IsRefusedIdle, TookIdle}
 use Rattle.graph_exec.proofs.Said.{taken_one}
 use Rattle.run_safety.proofs.SoFar.{runs_once}
 use Rattle.graph_exec.specs.declared.run.stop.ReplayStop.{ReplayStop}
 use Rattle.graph_exec.specs.declared.run.stop.ReplayStop.TheVariants as stop
-use Rattle.graph_exec.specs.Inner.Keeping.{HasRestingFailed, IsAnswered, IsRestingRefused, IsSilent, IsUnanswered}
+use Rattle.graph_exec.specs.Inner.KeptTransitions.{HasIdleFailed, IsAnswered, IsIdleRefused, IsSilent, IsUnanswered}
 use Rattle.graph_exec.specs.Replays.{Setting, setting, sight}
 use Rattle.graph_exec.specs.Inner.Turns.{HasComeTo, CameTo, RunEndsAs, EndsBroken, RunEndsCut, EndsStopped, EndsStoppedAsking, EndsWhole, IsSaid, plain_of}
 use Rattle.graph_exec.proofs.Joined.{came_step, said_none}
@@ -26,7 +26,7 @@ stays_said whole _ _ _ none (told given rest) = cc
 stays_said whole _ _ _ none (used_up h) = refl
 stays_said whole _ _ _ none (untold said) = refl
 
-module _ (whole steady : Bool) (k : ℕ) (j : JournalOf) (rest : Option (List Answer)) (over : Bool) where
+module _ (whole steady : Bool) (k : ℕ) (j : KnownJournalOf) (rest : Option (List Answer)) (over : Bool) where
   abbrev here_set : Setting
   here_set = setting j.cluster j.promotions whole steady
 
@@ -75,7 +75,7 @@ module _ (whole steady : Bool) (k : ℕ) (j : JournalOf) (rest : Option (List An
       }
 
       module _ (given : Answer) (said : Says whole rest (Some given) left) where
-        is_cut : Follows [] → (back : JournalOf) → IsRefusedResting j back given → (journal : Journal) → journal ≡ plain_of back
+        is_cut : Follows [] → (back : KnownJournalOf) → IsRefusedIdle j back given → (journal : Journal) → journal ≡ plain_of back
             → RunEndsCut Follows here_set (idle k j.events) (sight rest over) (sight left over_now) journal given
         is_cut none back r journal is = record {
           last = idle k j.events;
@@ -87,16 +87,16 @@ module _ (whole steady : Bool) (k : ℕ) (j : JournalOf) (rest : Option (List An
           leaves = is ∙ ap plain_of r.same;
         }
 
-        module _ (next : JournalOf) (took : TookResting j next given) where
+        module _ (next : KnownJournalOf) (took : TookIdle j next given) where
           abbrev later_at : RunStanding
-          later_at = due (k + 1) (j.events ++ answer_events (resting j.cluster j.events) [] given)
+          later_at = due (k + 1) (j.events ++ answer_events (idling j.cluster j.events) [] given)
 
           pub is_taken : Follows (line.Taken given ∷ []) → CameTo Follows here_set (idle k j.events) (sight rest over) (sight left over_now) (due (k + 1)) next
           is_taken told_one = record {
-            cluster_stays = ap (λ (x : JournalOf). x.cluster) took.goes_on;
-            promotions_stay = ap (λ (x : JournalOf). x.promotions) took.goes_on;
+            cluster_stays = ap (λ (x : KnownJournalOf). x.cluster) took.goes_on;
+            promotions_stay = ap (λ (x : KnownJournalOf). x.promotions) took.goes_on;
             came = subst (λ (es : List Event). HasComeTo Follows here_set (idle k j.events) (sight rest over) (sight left over_now) (due (k + 1) es))
-                (sym (ap (λ (x : JournalOf). x.events) took.goes_on))
+                (sym (ap (λ (x : KnownJournalOf). x.events) took.goes_on))
                 (came_step here_set Follows (idle k j.events) later_at (sight rest over) (sight left over_now) (line.Taken given ∷ [])
                 (answers k j.events rest left given said took.applies) told_one
                 (λ always open_still. record {
@@ -132,17 +132,17 @@ module _ (whole steady : Bool) (k : ℕ) (j : JournalOf) (rest : Option (List An
       ends_unanswered none Stopped (Err stop.NoMemory) same = record { at = idle k j.events; lines = []; runs = runs_nowhere same; told = none; between = tt }
 
 -- what came of the question, put together
-module _ (whole : Bool) (j : JournalOf) (rest left : Option (List Answer)) where
-  pub idle_answered : (given : Answer) (next : JournalOf) → Says whole rest (Some given) left → TookResting j next given
+module _ (whole : Bool) (j : KnownJournalOf) (rest left : Option (List Answer)) where
+  pub idle_answered : (given : Answer) (next : KnownJournalOf) → Says whole rest (Some given) left → TookIdle j next given
       → IsAnswered whole j rest left (record { answer = given; journal = next })
   idle_answered given next said took = record { said = said; took = took }
 
-  pub idle_refused : (given : Answer) → Says whole rest (Some given) left → (back : JournalOf) → IsRefusedResting j back given → (journal : Journal)
-      → journal ≡ plain_of back → IsRestingRefused whole j rest left journal given
+  pub idle_refused : (given : Answer) → Says whole rest (Some given) left → (back : KnownJournalOf) → IsRefusedIdle j back given → (journal : Journal)
+      → journal ≡ plain_of back → IsIdleRefused whole j rest left journal given
   idle_refused given said back refused journal leaves = record { said = said; back = back; refused = refused; leaves = leaves }
 
   pub idle_silent : Says whole rest None left → (journal : Journal) → journal ≡ plain_of j → IsSilent whole j rest left journal
   idle_silent said journal leaves = record { said = said; leaves = leaves }
 
-  pub idle_failed : (over : Bool) → left ≡ rest → over ≡ false → (journal : Journal) → journal ≡ plain_of j → HasRestingFailed whole j rest left over journal
+  pub idle_failed : (over : Bool) → left ≡ rest → over ≡ false → (journal : Journal) → journal ≡ plain_of j → HasIdleFailed whole j rest left over journal
   idle_failed over same not_over journal leaves = record { left_is = same; not_over = not_over; leaves = leaves }

@@ -7,15 +7,15 @@ use Rattle.cluster_types.specs.declared.journal.Action.{Action}
 use Rattle.cluster_types.specs.declared.journal.Answer.{Answer}
 use Rattle.cluster_types.specs.declared.journal.Event.{Event}
 use Rattle.cluster_types.specs.declared.placement.Placed.{Placed}
-use Rattle.cluster_types.specs.Answering.{added_by, applies_after}
+use Rattle.cluster_types.specs.AnswersThatApply.{added_by, applies_after}
 use Rattle.cluster_types.specs.Journals.{AreInFlightByNumber, in_flight_by_begin}
 use Rattle.cluster_types.specs.Safety.{IsAtRest}
-use Rattle.cluster_types.specs.Steps.{Applies, answer_events, is_from_outside, resting}
-use Rattle.graph_exec.specs.Logs.{JournalOf}
+use Rattle.cluster_types.specs.Steps.{Applies, answer_events, is_from_outside, idling}
+use Rattle.graph_exec.specs.KnownJournals.{KnownJournalOf}
 use Rattle.graph_exec.specs.Promises.{IsGraphPlanned}
-use Rattle.graph_exec.specs.Running.{Running, Went}
-use Rattle.graph_exec.specs.Inner.Running.{running_journal}
-use Rattle.graph_exec.specs.Saying.{AgreesOn}
+use Rattle.graph_exec.specs.Executors.{ExecutorOf, Went}
+use Rattle.graph_exec.specs.Inner.ExecutorFields.{running_journal}
+use Rattle.graph_exec.specs.SourceDuties.{AgreesOn}
 use Rattle.graph_exec.specs.Transitions.{Accords}
 use Rattle.graph_exec.specs.Inner.Turns.{HasPlannedGraph}
 
@@ -26,7 +26,7 @@ none_in_flight es flight idle none = rw none (record {
 })
 
 module _ (agrees : Cluster → List Event → ℕ → Type 0) where
-  pub accords_first : (r : Running) → in_flight_by_begin r.planned_at ≡ [] → r.since ≡ [] → agrees r.cluster r.planned_at 0 → Accords agrees r
+  pub accords_first : (r : ExecutorOf) → in_flight_by_begin r.planned_at ≡ [] → r.since ≡ [] → agrees r.cluster r.planned_at 0 → Accords agrees r
   accords_first r idle fresh h = record {
     idle = idle;
     agrees_now = subst (λ (since : List Event). agrees r.cluster (r.planned_at ++ since) (count_by is_from_outside since)) (sym fresh)
@@ -34,36 +34,36 @@ module _ (agrees : Cluster → List Event → ℕ → Type 0) where
   }
 
   module _ (anew : (c : Cluster) (es : List Event) (taken : ℕ) → agrees c es taken → agrees c es 0) where
-    pub accords_last : (r now : Running) → now.cluster ≡ r.cluster → Accords agrees now → (es : List Event) → es ≡ now.planned_at ++ now.since → agrees r.cluster es 0
+    pub accords_last : (r now : ExecutorOf) → now.cluster ≡ r.cluster → Accords agrees now → (es : List Event) → es ≡ now.planned_at ++ now.since → agrees r.cluster es 0
     accords_last r now same a es is =
         subst (λ (c : Cluster). agrees c es 0) same (subst (λ (x : List Event). agrees now.cluster x 0) (sym is) (anew now.cluster (now.planned_at ++ now.since) _ a.agrees_now))
 
     -- an answer is taken, or refused, while nothing is to be done
-    pub agrees_taken : (c : Cluster) (es : List Event) (given : Answer) → AgreesOn agrees c es 0 [] given → Applies (resting c es) [] given
-        → (later : List Event) → later ≡ es ++ answer_events (resting c es) [] given → agrees c later 0
+    pub agrees_taken : (c : Cluster) (es : List Event) (given : Answer) → AgreesOn agrees c es 0 [] given → Applies (idling c es) [] given
+        → (later : List Event) → later ≡ es ++ answer_events (idling c es) [] given → agrees c later 0
     agrees_taken c es given on applies later is =
         let here : applies_after c es [] 0 given ≡ true = subst (λ (x : List Event). applies_after c x [] 0 given ≡ true) (append-nil es) applies in
         let same : later ≡ es ++ added_by c es [] given = is ∙ ap (λ (x : List Event). es ++ added_by c x [] given) (append-nil es) in
         subst (λ (x : List Event). agrees c x 0) (sym same) (anew c (es ++ added_by c es [] given) _ (on.taken_on here))
 
-  pub agrees_refused : (c : Cluster) (es : List Event) (given : Answer) → AgreesOn agrees c es 0 [] given → ¬ Applies (resting c es) [] given → agrees c es 0
+  pub agrees_refused : (c : Cluster) (es : List Event) (given : Answer) → AgreesOn agrees c es 0 [] given → ¬ Applies (idling c es) [] given → agrees c es 0
   agrees_refused c es given on refused = on.refused (by (applies_after c es [] 0 given) refl) where
     by : (b : Bool) → applies_after c es [] 0 given ≡ b → applies_after c es [] 0 given ≡ false
     by true e = absurd (refused (subst (λ (x : List Event). applies_after c x [] 0 given ≡ true) (sym (append-nil es)) e))
     by false e = e
 
-pub never_refused : (c : Cluster) (es : List Event) (given : Answer) → applies_after c es [] 0 given ≡ true → ¬ Applies (resting c es) [] given → ⊥
+pub never_refused : (c : Cluster) (es : List Event) (given : Answer) → applies_after c es [] 0 given ≡ true → ¬ Applies (idling c es) [] given → ⊥
 never_refused c es given applies refused = refused (subst (λ (x : List Event). applies_after c x [] 0 given ≡ true) (sym (append-nil es)) applies)
 
 -- the plan is still that of the transition, and once it has ended its journal is at rest
-module _ (whole : Bool) (r now : Running) (rest left : Option (List Answer)) (went : Went whole r now rest left) where
+module _ (whole : Bool) (r now : ExecutorOf) (rest left : Option (List Answer)) (went : Went whole r now rest left) where
   planned_still : (placed : Placed) → IsGraphPlanned r placed → IsGraphPlanned now placed
   planned_still placed is =
-      subst (λ (x : Running). IsGraphPlanned x placed) (sym went.same) (record { valid = is.valid; at_rest = is.at_rest; plan = is.plan })
+      subst (λ (x : ExecutorOf). IsGraphPlanned x placed) (sym went.same) (record { valid = is.valid; at_rest = is.at_rest; plan = is.plan })
 
-  pub leaves_rest : HasPlannedGraph r → ((placed : Placed) → IsGraphPlanned now placed → IsAtRest (now.planned_at ++ now.since)) → (j : JournalOf) → j ≡ running_journal now → IsAtRest j.events
+  pub leaves_rest : HasPlannedGraph r → ((placed : Placed) → IsGraphPlanned now placed → IsAtRest (now.planned_at ++ now.since)) → (j : KnownJournalOf) → j ≡ running_journal now → IsAtRest j.events
   leaves_rest plan well j is =
-      subst IsAtRest (sym (ap (λ (x : JournalOf). x.events) is)) (well plan.placed (planned_still plan.placed plan.planned))
+      subst IsAtRest (sym (ap (λ (x : KnownJournalOf). x.events) is)) (well plan.placed (planned_still plan.placed plan.planned))
 
   pub stays_there : now.cluster ≡ r.cluster
-  stays_there = ap (λ (x : Running). x.cluster) went.same
+  stays_there = ap (λ (x : ExecutorOf). x.cluster) went.same

@@ -8,9 +8,9 @@ use Rattle.cluster_types.specs.Steps.{Transition, StepsOn, begins, takes, is_sil
 use Rattle.graph_exec.specs.declared.transition.ends.WatchedEnd.{WatchedEnd}
 use Rattle.graph_exec.specs.declared.transition.ends.WatchedEnd.TheVariants as how
 use Rattle.graph_exec.specs.Inner.Rounds.{Began}
-use Rattle.graph_exec.specs.Running.{Running, Took, Went, going}
-use Rattle.graph_exec.specs.Saying.{TakesAnswers}
-use Rattle.graph_exec.specs.Transitions.{HasGoneToEnd, HasSaidAll, WentAsSaid}
+use Rattle.graph_exec.specs.Executors.{ExecutorOf, Took, Went, transition_in}
+use Rattle.graph_exec.specs.SourceDuties.{TakesAnswers}
+use Rattle.graph_exec.specs.Transitions.{EndedByItself, HasSaidAll, WentAsSaid}
 use Rattle.graph_exec.proofs.Carrying.{no_fault, went_begun, went_nowhere, went_on, went_step}
 
 -- the same steps, with more answers to come behind
@@ -54,28 +54,28 @@ taken_then before between None xs ys a b = a ∙ ap (option_map (λ (left : List
 taken_then before between (Some left) xs ys a b =
     a ∙ (ap (option_map (λ (others : List Answer). xs ++ others)) b ∙ ap Some (sym (append_assoc xs ys left)))
 
-pub said_nothing : (r : Running) (rest : Option (List Answer)) → WentAsSaid r r rest rest
+pub said_nothing : (r : ExecutorOf) (rest : Option (List Answer)) → WentAsSaid r r rest rest
 said_nothing r rest = record { answers = []; went = went_nowhere false r (Some []); taken = taken_none rest }
 
-pub said_on : (first middle last : Running) (rest between left : Option (List Answer)) → WentAsSaid first middle rest between → WentAsSaid middle last between left
+pub said_on : (first middle last : ExecutorOf) (rest between left : Option (List Answer)) → WentAsSaid first middle rest between → WentAsSaid middle last between left
     → WentAsSaid first last rest left
 said_on first middle last rest between left a b =
     let before : Went false first middle (Some (a.answers ++ b.answers)) (Some b.answers)
-    = record { same = a.went.same; steps = goes_more b.answers (going first) first.since middle.since (Some a.answers) (Some []) a.went.steps } in
+    = record { same = a.went.same; steps = goes_more b.answers (transition_in first) first.since middle.since (Some a.answers) (Some []) a.went.steps } in
     record {
       answers = a.answers ++ b.answers;
       went = went_on false first middle last _ _ _ before b.went;
       taken = taken_then rest between left a.answers b.answers a.taken b.taken;
     }
 
-pub said_begun : (old new : Running) (rest left : Option (List Answer)) → Began old new → left ≡ rest → WentAsSaid old new rest left
+pub said_begun : (old new : ExecutorOf) (rest left : Option (List Answer)) → Began old new → left ≡ rest → WentAsSaid old new rest left
 said_begun old new rest left b same = record {
   answers = [];
   went = went_begun false old new (Some []) (Some []) b refl;
   taken = subst (λ (x : Option (List Answer)). TakesAnswers rest [] x) (sym same) (taken_none rest);
 }
 
-pub said_taken : (whole : Bool) (old new : Running) (rest left : Option (List Answer)) (given : Answer) → Says whole rest (Some given) left → Took old new given
+pub said_taken : (whole : Bool) (old new : ExecutorOf) (rest left : Option (List Answer)) (given : Answer) → Says whole rest (Some given) left → Took old new given
     → WentAsSaid old new rest left
 said_taken whole old new rest left given said t = record {
   answers = given ∷ [];
@@ -84,17 +84,17 @@ said_taken whole old new rest left given said t = record {
 }
 
 -- what a steady source has said, by how the transition ended
-module _ (old new : Running) (rest left : Option (List Answer)) (over over_now : Bool) where
-  pub done_said : (end : WatchedEnd) → HasGoneToEnd end → (over_now ≡ false → WentAsSaid old new rest left) → HasSaidAll old new rest left over over_now end
+module _ (old new : ExecutorOf) (rest left : Option (List Answer)) (over over_now : Bool) where
+  pub done_said : (end : WatchedEnd) → EndedByItself end → (over_now ≡ false → WentAsSaid old new rest left) → HasSaidAll old new rest left over over_now end
   done_said end done said = record {
     failed = λ fault. no_fault end done fault;
     not_over = λ fault. no_fault end done fault;
     to_end = λ open_still there. said open_still;
   }
 
-  pub going_said : (end : WatchedEnd) → ¬ HasGoneToEnd end → (end ≡ how.SourceFault → WentAsSaid old new rest left) → (end ≡ how.SourceFault → over ≡ false)
+  pub going_said : (end : WatchedEnd) → ¬ EndedByItself end → (end ≡ how.SourceFault → WentAsSaid old new rest left) → (end ≡ how.SourceFault → over ≡ false)
       → HasSaidAll old new rest left over over_now end
-  going_said end going failed not_over = record { failed = failed; not_over = not_over; to_end = λ open_still there. absurd (going there) }
+  going_said end transition_in failed not_over = record { failed = failed; not_over = not_over; to_end = λ open_still there. absurd (transition_in there) }
 
   no_fault_stopped : {R : Type 0} → how.Stopped ≡ how.SourceFault → R
   no_fault_stopped e = let f : ⊥ = cc in absurd f

@@ -7,8 +7,8 @@ use Rattle.cluster_types.specs.declared.plan.Plan.{Plan}
 use Rattle.cluster_types.specs.declared.states.States.{States}
 use Rattle.cluster_types.specs.Graphs.{GraphOf}
 use Rattle.cluster_types.specs.Plans.{CarriesOut}
-use Rattle.cluster_types.specs.Unpacked.{states_of}
-use Rattle.planner.specs.Planned.{AreTold, IsPlanned}
+use Rattle.cluster_types.specs.UnpackedStates.{states_of}
+use Rattle.planner.specs.PlanForJournal.{AreTold, IsPlanned}
 use Rattle.graph_exec.specs.declared.run.planning.KeptPlan.{KeptPlan}
 use Rattle.graph_exec.specs.Inner.Turns.{Serves}
 

@@ -8,32 +8,32 @@ use Rattle.cluster_types.specs.Sources.{untold}
 use Rattle.cluster_types.specs.Steps.{Transition, Goes, begins, takes, is_silent}
 use Rattle.run_safety.proofs.InFlight.{number_within}
 use Rattle.run_safety.proofs.Planned.{place_of}
-use Rattle.graph_exec.specs.Running.{Running, BeginsNow, IsAnswerRefused, IsRunSettled, IsUnderWay, Took, Went, going}
-use Rattle.graph_exec.specs.Inner.Running.{EndedSilently}
+use Rattle.graph_exec.specs.Executors.{ExecutorOf, BeginsNow, IsAnswerRefused, StaysSettled, IsUnderWay, Took, Went, transition_in}
+use Rattle.graph_exec.specs.Inner.ExecutorFields.{EndedSilently}
 use Rattle.graph_exec.proofs.Carrying.{goes-on, went_step, went_untold}
 
 -- what went on by steps is under way still
-pub under_way_on : (whole : Bool) (old new : Running) (rest left : Option (List Answer)) → IsUnderWay old → Went whole old new rest left → IsUnderWay new
+pub under_way_on : (whole : Bool) (old new : ExecutorOf) (rest left : Option (List Answer)) → IsUnderWay old → Went whole old new rest left → IsUnderWay new
 under_way_on whole old new rest left h w =
-    let going_is : going new ≡ going old = ap going w.same in
+    let going_is : transition_in new ≡ transition_in old = ap transition_in w.same in
     let more = (went_untold whole old new rest left w).steps in
     record {
-      graph = subst IsGraph (sym (ap (λ (r : Running). r.graph) w.same)) h.graph;
+      graph = subst IsGraph (sym (ap (λ (r : ExecutorOf). r.graph) w.same)) h.graph;
       steps = subst (λ (t : Transition). Goes t true [] None new.since None) (sym going_is)
-          (goes-on (going old) true [] old.since new.since None None None h.steps more);
+          (goes-on (transition_in old) true [] old.since new.since None None None h.steps more);
     }
 
 -- which action has begun
-pub begun_high : (old new : Running) (k : ℕ) → BeginsNow old new k → k ≤ length new.graph.actions
+pub begun_high : (old new : ExecutorOf) (k : ℕ) → BeginsNow old new k → k ≤ length new.graph.actions
 begun_high old new k b = rw b.goes_on (number_within old.graph.actions k b.action b.begins.action).1
 
-pub begun_action : (old new : Running) (k : ℕ) (b : BeginsNow old new k) (a : Action) → slice_get new.graph.actions (k - 1) ≡ Some a → b.action ≡ a
+pub begun_action : (old new : ExecutorOf) (k : ℕ) (b : BeginsNow old new k) (a : Action) → slice_get new.graph.actions (k - 1) ≡ Some a → b.action ≡ a
 begun_action old new k b a is =
     let there : slice_get old.graph.actions (k - 1) ≡ Some b.action = place_of old.graph.actions k b.action b.begins.action in
     let here : slice_get old.graph.actions (k - 1) ≡ Some a = rw b.goes_on at is in
     cc
 
-module _ (old new : Running) (h : IsUnderWay old) where
+module _ (old new : ExecutorOf) (h : IsUnderWay old) where
   under_way_after : Went true old new None None → IsUnderWay new
   under_way_after w = under_way_on true old new None None h w
 
@@ -46,7 +46,7 @@ module _ (old new : Running) (h : IsUnderWay old) where
   pub silent_under_way : (given : Answer) → EndedSilently old new given → IsUnderWay new
   silent_under_way given s = under_way_after (went_step true old new _ None None s.goes_on (is_silent None None s.number s.action (untold None) s.ends))
 
-  pub begun_under_way : (o : Option ℕ) → IfSome o (λ k. BeginsNow old new k) → IfNone o (IsRunSettled old new) → IsUnderWay new
+  pub begun_under_way : (o : Option ℕ) → IfSome o (λ k. BeginsNow old new k) → IfNone o (StaysSettled old new) → IsUnderWay new
   begun_under_way (Some k) b n = begin_under_way k b
   begun_under_way None b n = rw n.same h
 

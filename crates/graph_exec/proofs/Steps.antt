@@ -14,10 +14,10 @@ use Rattle.cluster_types.specs.Runs.{due, amid, Runs, RunsOn, plans}
 use Rattle.cluster_types.specs.Steps.{Transition, Goes}
 use Rattle.cluster_types.specs.Texts.{event_lines}
 use Rattle.cluster_types.proofs.SourceLaws.{carries-out}
-use Rattle.graph_exec.specs.Running.{Running, Went, going}
-use Rattle.graph_exec.specs.Telling.{plan_lines}
+use Rattle.graph_exec.specs.Executors.{ExecutorOf, Went, transition_in}
+use Rattle.graph_exec.specs.WatcherLines.{plan_lines}
 use Rattle.graph_exec.specs.Transitions.{WentAsSaid}
-use Rattle.graph_exec.specs.Watching.{AreLinesTold}
+use Rattle.graph_exec.specs.WatchedTransitions.{AreLinesTold}
 use Rattle.graph_exec.proofs.Said.{goes_more, taken_none}
 use Rattle.run_safety.proofs.OneTransition.{goes_runs}
 use Rattle.run_safety.proofs.SoFar.{runs_once}
@@ -54,13 +54,13 @@ part_runs c promotions whole k t since later rest left fresh steps =
     let part = goes_runs c promotions whole k t [] later rest left (rw fresh at steps) in
     subst (λ (es : List Event). Runs c promotions whole (amid k t []) rest (flat_map event_lines es) (amid k t later) left) (sym part.joined) part.runs
 
-module _ (s : Setting) (k : ℕ) (r now : Running) (fresh : r.since ≡ []) where
+module _ (s : Setting) (k : ℕ) (r now : ExecutorOf) (fresh : r.since ≡ []) where
   pub part_said : (rest left : Option (List Answer)) → WentAsSaid r now rest left
-      → IsSaid s (amid k (going r) []) (amid k (going r) now.since) (flat_map event_lines now.since) rest left
+      → IsSaid s (amid k (transition_in r) []) (amid k (transition_in r) now.since) (flat_map event_lines now.since) rest left
   part_said rest left w = record {
     answers = w.answers;
-    runs = λ ys. part_runs s.cluster s.promotions false k (going r) r.since now.since (Some (w.answers ++ ys)) (Some ys) fresh
-        (goes_more ys (going r) r.since now.since (Some w.answers) (Some []) w.went.steps);
+    runs = λ ys. part_runs s.cluster s.promotions false k (transition_in r) r.since now.since (Some (w.answers ++ ys)) (Some ys) fresh
+        (goes_more ys (transition_in r) r.since now.since (Some w.answers) (Some []) w.went.steps);
     taken = w.taken;
   }
 
@@ -72,10 +72,10 @@ module _ (s : Setting) (k : ℕ) (r now : Running) (fresh : r.since ≡ []) wher
   -- the transition went on
   pub came_carried : (Follows : List RunLine → Type 0) (rest left : Option (List Answer)) (over over_now : Bool) → Went s.whole r now rest left
       → AreLinesTold Follows r now → (s.steady ≡ true → over_now ≡ false → WentAsSaid r now rest left)
-      → HasComeTo Follows s (amid k (going r) []) (sight rest over) (sight left over_now) (amid k (going r) now.since)
+      → HasComeTo Follows s (amid k (transition_in r) []) (sight rest over) (sight left over_now) (amid k (transition_in r) now.since)
   came_carried Follows rest left over over_now went told said = record {
     lines = flat_map event_lines now.since;
-    runs = part_runs s.cluster s.promotions s.whole k (going r) r.since now.since rest left fresh went.steps;
+    runs = part_runs s.cluster s.promotions s.whole k (transition_in r) r.since now.since rest left fresh went.steps;
     told = part_told Follows told;
     said = λ steady open_still. part_said rest left (said steady open_still);
   }

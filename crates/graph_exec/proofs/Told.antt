@@ -14,17 +14,17 @@ use Rattle.graph_exec.specs.declared.transition.ends.WatchedEnd.TheVariants as h
 use Rattle.graph_exec.specs.declared.transition.watcher.Heard.{Heard}
 use Rattle.graph_exec.specs.declared.transition.watcher.Heard.TheVariants as heard
 use Rattle.graph_exec.specs.Inner.Rounds.{Answered, StopsAs}
-use Rattle.graph_exec.specs.Running.{Running, BeginsNow, Went, going, later}
-use Rattle.graph_exec.specs.Transitions.{HasGoneToEnd}
-use Rattle.graph_exec.specs.Watching.{Hears, AreLinesTold, heard_at}
+use Rattle.graph_exec.specs.Executors.{ExecutorOf, BeginsNow, Went, transition_in, later}
+use Rattle.graph_exec.specs.Transitions.{EndedByItself}
+use Rattle.graph_exec.specs.WatchedTransitions.{Hears, AreLinesTold, heard_at}
 use Rattle.graph_exec.proofs.Carrying.{went_nowhere, went_on}
 
-pub told_nothing : (Follows : List RunLine → Type 0) → Follows [] → (r : Running) → AreLinesTold Follows r r
+pub told_nothing : (Follows : List RunLine → Type 0) → Follows [] → (r : ExecutorOf) → AreLinesTold Follows r r
 told_nothing Follows none r = record { events = []; happened = sym (append-nil r.since); told = none }
 
 -- one part, and then the next
 module _ (First Then All : List RunLine → Type 0) (join : (lines more : List RunLine) → First lines → Then more → All (lines ++ more)) where
-  pub told_on : (first middle last : Running) → AreLinesTold First first middle → AreLinesTold Then middle last → AreLinesTold All first last
+  pub told_on : (first middle last : ExecutorOf) → AreLinesTold First first middle → AreLinesTold Then middle last → AreLinesTold All first last
   told_on first middle last a b = record {
     events = a.events ++ b.events;
     happened = b.happened ∙ ap (λ (es : List Event). es ++ b.events) a.happened ∙ append_assoc first.since a.events b.events;
@@ -33,7 +33,7 @@ module _ (First Then All : List RunLine → Type 0) (join : (lines more : List R
 
   module _ (StopThen StopAll : List RunLine → Option RunLine → Type 0)
       (stop : (lines more : List RunLine) (at : Option RunLine) → First lines → StopThen more at → StopAll (lines ++ more) at)
-      (whole : Bool) (first middle last : Running) (rest between left : Option (List Answer)) where
+      (whole : Bool) (first middle last : ExecutorOf) (rest between left : Option (List Answer)) where
     pub hears_on : (h : Heard) → Went whole first middle rest between → AreLinesTold First first middle → Hears Then StopThen whole middle last between left h
         → Hears All StopAll whole first last rest left h
     hears_on heard.Go w a b = told_on first middle last a b
@@ -61,13 +61,13 @@ module _ (First Then All : List RunLine → Type 0) (join : (lines more : List R
       };
     })
 
-module _ (Follows : List RunLine → Type 0) (Stopped : List RunLine → Option RunLine → Type 0) (whole : Bool) (old new : Running) (rest left : Option (List Answer)) where
+module _ (Follows : List RunLine → Type 0) (Stopped : List RunLine → Option RunLine → Type 0) (whole : Bool) (old new : ExecutorOf) (rest left : Option (List Answer)) where
   -- one step, of one line
-  hears_step : (events : List Event) (said : RunLine) → StepsOn (going old) whole old.since rest events left → new ≡ later old events
+  hears_step : (events : List Event) (said : RunLine) → StepsOn (transition_in old) whole old.since rest events left → new ≡ later old events
       → flat_map event_lines events ≡ said ∷ [] → (h : Heard) → (h ≡ heard.Go → Follows (said ∷ [])) → (h ≡ heard.Stop → Stopped [] (Some said))
       → Hears Follows Stopped whole old new rest left h
   hears_step events said step goes_on lines heard.Go follows stopped =
-      record { events = events; happened = ap (λ (r : Running). r.since) goes_on; told = subst Follows (sym lines) (follows refl) }
+      record { events = events; happened = ap (λ (r : ExecutorOf). r.since) goes_on; told = subst Follows (sym lines) (follows refl) }
   hears_step events said step goes_on lines heard.Stop follows stopped = inl (record {
     at = old;
     middle = rest;
@@ -86,7 +86,7 @@ module _ (Follows : List RunLine → Type 0) (Stopped : List RunLine → Option 
       → (h ≡ heard.Stop → Stopped [] (Some (line.Begin k b.action))) → Hears Follows Stopped whole old new rest left h
   hears_begin k b h same follows stopped =
       hears_step (Begin k b.action ∷ []) (line.Begin k b.action)
-      (subst (λ (x : Option (List Answer)). StepsOn (going old) whole old.since rest (Begin k b.action ∷ []) x) (sym same) (begins rest k b.action b.begins)) b.goes_on refl
+      (subst (λ (x : Option (List Answer)). StepsOn (transition_in old) whole old.since rest (Begin k b.action ∷ []) x) (sym same) (begins rest k b.action b.begins)) b.goes_on refl
       h follows stopped
 
   pub hears_answer : (given : Answer) (a : Answered whole old new rest left given) (h : Heard) → (h ≡ heard.Go → Follows (line.Taken given ∷ []))
@@ -94,7 +94,7 @@ module _ (Follows : List RunLine → Type 0) (Stopped : List RunLine → Option 
   hears_answer given a h follows stopped = hears_step a.events (line.Taken given) a.step a.goes_on a.lines h follows stopped
 
   -- the watcher stops as the source is about to be asked
-  pub hears_asking : IsWaiting (going old) old.since → new ≡ old → Stopped [] None → Hears Follows Stopped whole old new rest left heard.Stop
+  pub hears_asking : IsWaiting (transition_in old) old.since → new ≡ old → Stopped [] None → Hears Follows Stopped whole old new rest left heard.Stop
   hears_asking waiting same stopped =
       rw same (inr (record { waiting = waiting; told = told_nothing (λ lines. Stopped lines None) stopped old }))
 
@@ -107,7 +107,7 @@ module _ (Follows : List RunLine → Type 0) (Stopped : List RunLine → Option 
   hears_none none how.Stopped s = absurd s
 
   -- nor where nothing more was to be done
-  pub hears_done : (end : WatchedEnd) → HasGoneToEnd end → AreLinesTold Follows old new → Hears Follows Stopped whole old new rest left (heard_at end)
+  pub hears_done : (end : WatchedEnd) → EndedByItself end → AreLinesTold Follows old new → Hears Follows Stopped whole old new rest left (heard_at end)
   hears_done how.Complete d t = t
   hears_done (how.Aborted event) d t = t
   hears_done (how.Unexpected given) d t = absurd d

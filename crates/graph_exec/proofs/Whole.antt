@@ -10,8 +10,8 @@ use Rattle.cluster_types.specs.declared.run.RunLine.{RunLine}
 use Rattle.cluster_types.specs.Journals.{Orderly}
 use Rattle.cluster_types.specs.Runs.{RunStanding, due, amid, idle, Runs, here, IsAsking, not_yet}
 use Rattle.cluster_types.specs.Safety.{IsAtRest, IsSafeRun}
-use Rattle.graph_exec.specs.Logs.{JournalOf}
-use Rattle.graph_exec.specs.Saying.{TakesAnswers}
+use Rattle.graph_exec.specs.KnownJournals.{KnownJournalOf}
+use Rattle.graph_exec.specs.SourceDuties.{TakesAnswers}
 use Rattle.run_safety.proofs.Rests.{at_rest, in_order}
 use Rattle.run_safety.proofs.SoFar.{runs_more}
 use Rattle.graph_exec.specs.declared.run.stop.ReplayStop.{ReplayStop}
@@ -129,11 +129,11 @@ pub nothing_made : (Follows : List RunLine → Type 0) (Stopped : List RunLine �
 nothing_made Follows Stopped none s es a = record { lines = []; at = due 1 es; run = here (due 1 es) a.rest; between = tt; told = none }
 
 -- the run begins
-pub starts : (Follows : List RunLine → Type 0) → Follows [] → (c : Cluster) (promotions : List Promotion) (whole steady : Bool) (es : List Event) (a : Sight) (j : JournalOf)
+pub starts : (Follows : List RunLine → Type 0) → Follows [] → (c : Cluster) (promotions : List Promotion) (whole steady : Bool) (es : List Event) (a : Sight) (j : KnownJournalOf)
     → j ≡ record { cluster = c; events = es; promotions = promotions } → CameTo Follows (setting c promotions whole steady) (due 1 es) a a (due 1) j
 starts Follows none c promotions whole steady es a j is = record {
-  cluster_stays = ap (λ (x : JournalOf). x.cluster) is;
-  promotions_stay = ap (λ (x : JournalOf). x.promotions) is;
-  came = subst (λ (x : List Event). HasComeTo Follows (setting c promotions whole steady) (due 1 es) a a (due 1 x)) (sym (ap (λ (x : JournalOf). x.events) is))
+  cluster_stays = ap (λ (x : KnownJournalOf). x.cluster) is;
+  promotions_stay = ap (λ (x : KnownJournalOf). x.promotions) is;
+  came = subst (λ (x : List Event). HasComeTo Follows (setting c promotions whole steady) (due 1 es) a a (due 1 x)) (sym (ap (λ (x : KnownJournalOf). x.events) is))
       (came_nowhere (setting c promotions whole steady) Follows none (due 1 es) a);
 }

@@ -7,7 +7,7 @@ use Rattle.graph_exec.specs.declared.run.stop.ReplayStop.{ReplayStop}
 use Rattle.graph_exec.specs.declared.run.stop.ReplayStop.TheVariants as stop
 use Rattle.graph_exec.specs.declared.transition.outcomes.Next.{Next}
 use Rattle.graph_exec.specs.declared.transition.outcomes.Next.TheVariants as next
-use Rattle.graph_exec.specs.Running.{Running, going}
+use Rattle.graph_exec.specs.Executors.{ExecutorOf, transition_in}
 
 -- a count has risen by one, or stands at the last value of its counter
 pub record RoseByOne (before now : ℕ) : Type 0 where
@@ -26,8 +26,8 @@ abbrev pub RoseBy : ℕ → ℕ → ℕ → Type 0
 RoseBy times before now = min (before + times) (2 ^ 64 - 1) ≤ now
 
 -- from one moment of a transition to another: where nothing had aborted it and something has now, an answer was given since
-pub record IsAbortAnswered (old new : Running) (before now : ℕ) : Type 0 where
-  pub given : has_aborted (going old) old.since ≡ false → has_aborted (going new) new.since ≡ true → Rose before now
+pub record IsAbortAnswered (old new : ExecutorOf) (before now : ℕ) : Type 0 where
+  pub given : has_aborted (transition_in old) old.since ≡ false → has_aborted (transition_in new) new.since ≡ true → Rose before now
 
 -- where as many transitions were made as are allowed, at least as many answers were given
 abbrev pub AreMostAnswered : ℕ → ℕ → ℕ → Result Journal (ReplayStop Journal) → Type 0

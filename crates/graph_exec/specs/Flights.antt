@@ -5,7 +5,7 @@ use Rattle.std.specs.Option.{option_map_or}
 use Rattle.cluster_types.specs.declared.journal.Action.{Action}
 use Rattle.cluster_types.specs.Steps.{numbered}
 use Rattle.listed.specs.Sets.{members}
-use Rattle.graph_exec.specs.Ready.{Progress}
+use Rattle.graph_exec.specs.ReadyActions.{Progress}
 
 -- which actions have begun and succeeded, and which are in flight
 pub record InFlightOf : Type 0 where

@@ -1,8 +1,9 @@
 -- What no public clause rests on: what the code of this crate keeps and counts on the way, for its proofs alone.
-pub mod Freed
 pub mod Flights
+pub mod ClearedPositions
+pub mod KeptTransitions
 pub mod Logs
-pub mod Running
-pub mod Keeping
 pub mod Rounds
+pub mod ExecutorFields
 pub mod Turns
+pub mod LastHeard

@@ -10,9 +10,9 @@ use Rattle.cluster_types.specs.declared.journal.Promotion.{Promotion}
 use Rattle.cluster_types.specs.declared.run.RunLine.{RunLine}
 use Rattle.cluster_types.specs.Journals.{Orderly}
 use Rattle.cluster_types.specs.Runs.{RunStanding, due, Runs, IsBetween, IsRunSoFar, IsStoppedRun}
-use Rattle.graph_exec.specs.Lasting.{LastWord, none_failed, word_is}
+use Rattle.graph_exec.specs.LastWords.{LastWord, none_failed, word_is}
 use Rattle.graph_exec.specs.RunEnds.{EndOfRun, EndsSo, at_most, in_failure, unexpected, with_all}
-use Rattle.graph_exec.specs.Telling.{RunView, StopsAmong, view_between}
+use Rattle.graph_exec.specs.WatcherLines.{RunView, StopsAmong, view_between}
 use Rattle.graph_exec.specs.declared.transition.outcomes.Next.TheVariants as next
 use Rattle.graph_exec.specs.declared.transition.watcher.Heard.{Heard}
 use Rattle.graph_exec.specs.declared.transition.watcher.Heard.TheVariants as heard

@@ -7,7 +7,7 @@ use Rattle.cluster_types.specs.declared.journal.Event.{Event}
 use Rattle.cluster_types.specs.declared.journal.Promotion.{Promotion}
 use Rattle.cluster_types.specs.declared.run.RunLine.{RunLine}
 use Rattle.cluster_types.specs.Runs.{IsCutRun, IsRunSoFar, IsRunUpTo, IsWholeRun}
-use Rattle.graph_exec.specs.Saying.{TakesAnswers}
+use Rattle.graph_exec.specs.SourceDuties.{TakesAnswers}
 
 -- the end of a run: all is done, an answer doesn't apply, the source failed, or so many transitions were made
 pub data EndOfRun : Type 0 where

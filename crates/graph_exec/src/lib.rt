@@ -9,19 +9,19 @@ mod transition;
 // A run: transition after transition, told as it goes, or kept.
 mod run;
 
-pub use run::kept::replay;
+pub use run::kept_run::replay;
 pub use run::stop::ReplayStop;
-pub use run::watched::replay_watched;
+pub use run::watched_run::replay_watched;
 pub use transition::course::{NotBegun, Parts};
 pub use transition::ends::{End, WatchedEnd};
 pub use transition::executor::{Executor, NotMade};
 pub use transition::failing::Failing;
 pub use transition::flight::InFlight;
+pub use transition::idle_cluster::{IdleCluster, NotTaken};
 pub use transition::known_journal::KnownJournal;
 pub use transition::meaning::is_success;
 pub use transition::outcomes::{Next, Outcomes};
 pub use transition::over_source::{run_transition, run_watched};
-pub use transition::resting::{NotTaken, Resting};
 pub use transition::script::Script;
 pub use transition::taking::Unexpected;
 pub use transition::waiting::Waiting;

@@ -12,8 +12,8 @@ pub mod same_states;
 pub mod turning;
 
 // A run that is told as it goes.
-pub mod watched;
+pub mod watched_run;
 
 // A run that is kept.
 pub mod keeping;
-pub mod kept;
+pub mod kept_run;

@@ -24,7 +24,7 @@ pub mod applying;
 pub mod course;
 pub mod ending;
 pub mod executor;
-pub mod resting;
+pub mod idle_cluster;
 pub mod taking;
 
 // A transition over a source, to its end.

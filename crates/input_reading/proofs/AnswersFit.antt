@@ -25,7 +25,7 @@ use Rattle.input_reading.specs.declared.results.answers.ResultWord.TheVariants.{
 use Rattle.input_reading.specs.declared.results.result_lines.ResultLine.{ResultLine}
 use Rattle.input_reading.specs.declared.words.word_cause.WordCause.TheVariants.{BadValue}
 use Rattle.input_reading.specs.Numbers.{above_0, read_action_number, read_exit_code}
-use Rattle.input_reading.specs.Places.{code_at, leaf_at, line_end_at, node_at, number_at, seconds_at, word_at, yes_at}
+use Rattle.input_reading.specs.WordPlaces.{code_at, leaf_at, line_end_at, node_at, number_at, seconds_at, word_at, yes_at}
 use Rattle.input_reading.specs.Reading.{ReadsInput, following_lines, head_of, status_lines, with_results}
 use Rattle.input_reading.specs.ResultFields.{AnswerFieldsFit}
 use Rattle.input_reading.specs.Results.{answer_as, answer_of, end_line, in_time, lost_line, moment_after, quorum_answer, report_line, result_of, result_word, results_of, timeout_line, up_line, wait_line, with_result, with_result_lines}

@@ -7,7 +7,7 @@ use Rattle.faults.specs.Digits.{is_number}
 use Rattle.cluster_types.specs.declared.cluster.Cluster.{Cluster}
 use Rattle.names.specs.Names.{node_of_word}
 use Rattle.input_reading.specs.Numbers.{read_seconds}
-use Rattle.input_reading.specs.Places.{WordsOfLine, node_at, seconds_at, word_at}
+use Rattle.input_reading.specs.WordPlaces.{WordsOfLine, node_at, seconds_at, word_at}
 use Rattle.input_reading.proofs.Steps.{any_step, given, where_true}
 
 place_within : {X : Type 0} (test : X → Bool) (xs : List X) → IfSome (position test xs) (λ n. nat_lt n (length xs) ≡ true)

@@ -47,7 +47,7 @@ use Rattle.input_reading.specs.declared.input.cause.InputCause.TheVariants as ca
 use Rattle.input_reading.specs.declared.input.reading.Configuration.{Configuration}
 use Rattle.input_reading.specs.declared.input.reading.Head.{Head}
 use Rattle.input_reading.specs.declared.input.reading.Input.{Input}
-use Rattle.input_reading.specs.Reading.{IsFaultyText, IsReadable, configuration_lines, configuration_of, following_lines, head_of, input_of, line_behind, status_lines, with_cluster, with_results}
+use Rattle.input_reading.specs.Reading.{IsFaultyText, IsReadable, configuration_lines, configuration_of, following_lines, head_of, input_of, line_behind, status_lines, behind_cluster, with_results}
 use Rattle.input_reading.specs.declared.input.trace.Trace.{Trace}
 use Rattle.input_reading.specs.Sections.{sections_with_trace}
 use Rattle.input_reading.specs.Traces.{IsFaultyTrace, IsReadableTrace, trace_of, with_run}
@@ -250,7 +250,7 @@ with_results_stands head found =
     let start = moment_of head.journal.events in
     stands_bind (faulting cause.Results (results_of head.cluster start found)) _ (results_stand head.cluster start found) (λ given. tt)
 
-with_cluster_stands : (found : Configuration) (cluster : Cluster) → Stands (with_cluster with_results found cluster)
+with_cluster_stands : (found : Configuration) (cluster : Cluster) → Stands (behind_cluster with_results found cluster)
 with_cluster_stands found cluster =
     stands_bind (head_of found.crm cluster (status_lines found.marks found.lines)) _ (head_stands found.crm cluster (status_lines found.marks found.lines))
     (λ head. with_results_stands head (following_lines found.marks found.lines))

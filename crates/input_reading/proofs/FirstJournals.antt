@@ -11,14 +11,15 @@ use Rattle.cluster_types.specs.declared.journal.Event.{Event}
 use Rattle.cluster_types.specs.declared.journal.Event.TheVariants.{Up, Down, Lost, Quorum, Wait, Cleanup, Ended}
 use Rattle.cluster_types.specs.declared.journal.Promotion.{Promotion}
 use Rattle.cluster_types.specs.Journals as journals
-use Rattle.cluster_types.specs.Journals.{NodeWord, Orderly, first_events, in_flight_by_begin, is_history_event, leaving, moment_of, seconds_of}
+use Rattle.cluster_types.specs.Journals.{NodeSaid, Orderly, first_events, in_flight_by_begin, is_history_event, leaving, moment_of, seconds_of}
 use Rattle.cluster_types.proofs.JournalLaws.{in-order, nothing-in-flight}
-use Rattle.input_reading.specs.declared.status.line_meaning.Told.{Told}
-use Rattle.input_reading.specs.declared.status.line_meaning.Told.TheVariants as told
-use Rattle.input_reading.specs.FirstJournal.{all_differ, events_of, history_of, is_again, is_known, is_repeated, is_promotion_of_same_cell, now_of, promotion_in, quorum_of, word_of}
+use Rattle.input_reading.specs.declared.status.line_meaning.Fact.{Fact}
+use Rattle.input_reading.specs.declared.status.line_meaning.Fact.TheVariants as told
+use Rattle.input_reading.specs.FirstJournal.{events_of, history_of, is_again, is_repeated, is_promotion_of_same_cell, now_of, promotion_in, quorum_of, word_of}
+use Rattle.input_reading.specs.Inner.FirstJournal.{all_differ, is_known}
 
 -- one more line
-pub one_more_known : (nodes : ℕ) (before : List Told) (one : Told) → list_all (is_known nodes) before ≡ true → is_known nodes one ≡ true
+pub one_more_known : (nodes : ℕ) (before : List Fact) (one : Fact) → list_all (is_known nodes) before ≡ true → is_known nodes one ≡ true
     → list_all (is_known nodes) (before ++ one ∷ []) ≡ true
 one_more_known nodes [] one h k = and_from (is_known nodes one) true k refl
 one_more_known nodes (x ∷ before) one h k =
@@ -27,7 +28,7 @@ one_more_known nodes (x ∷ before) one h k =
 any_last : (a b c : Bool) → not a ≡ true → b ≡ false → c ≡ a || (b || false) → not c ≡ true
 any_last a b c h k e = let f : a ≡ false = denied_first a true (and_from (not a) true h refl) in let g : a || (b || false) ≡ false = rw (f, k) refl in let r : c ≡ false = e ∙ g in rw r refl
 
-pub one_more_differs : (before : List Told) (one : Told) → all_differ before ≡ true → is_repeated before one ≡ false
+pub one_more_differs : (before : List Fact) (one : Fact) → all_differ before ≡ true → is_repeated before one ≡ false
     → all_differ (before ++ one ∷ []) ≡ true
 one_more_differs [] one h k = refl
 one_more_differs (x ∷ before) one h k =
@@ -38,7 +39,7 @@ one_more_differs (x ∷ before) one h k =
     (one_more_differs before one (later (not (list_any (is_again x) before)) _ h) now.1)
 
 -- the history is what a status tells
-history_reported : (nodes : ℕ) (lines : List Told) → list_all (is_known nodes) lines ≡ true → list_all (is_history_event nodes) (history_of lines) ≡ true
+history_reported : (nodes : ℕ) (lines : List Fact) → list_all (is_known nodes) lines ≡ true → list_all (is_history_event nodes) (history_of lines) ≡ true
 history_reported nodes [] h = refl
 history_reported nodes (told.Now seconds ∷ lines) h = history_reported nodes lines (later (is_known nodes (told.Now seconds)) _ h)
 history_reported nodes (told.Quorum now ∷ lines) h = history_reported nodes lines h
@@ -48,7 +49,7 @@ history_reported nodes (told.Past event ∷ lines) h =
 history_reported nodes (told.Promoting promotion ∷ lines) h = history_reported nodes lines h
 
 -- the moment that is said is below 2^40
-now_small : (nodes : ℕ) (lines : List Told) → list_all (is_known nodes) lines ≡ true → now_of lines < 2 ^ 40
+now_small : (nodes : ℕ) (lines : List Fact) → list_all (is_known nodes) lines ≡ true → now_of lines < 2 ^ 40
 now_small nodes [] h = omega arith
 now_small nodes (told.Now seconds ∷ lines) h = grind (arith, nat_tests)
 now_small nodes (told.Quorum now ∷ lines) h = now_small nodes lines h
@@ -71,7 +72,7 @@ unsaid_waits : (b : Bool) (n : ℕ) → moment_of (if b then Lost n ∷ [] else 
 unsaid_waits true n = refl
 unsaid_waits false n = refl
 
-leaving_waits : (c : Cluster) (n : ℕ) (word : NodeWord) → moment_of (leaving c (n, word)) ≡ 0
+leaving_waits : (c : Cluster) (n : ℕ) (word : NodeSaid) → moment_of (leaving c (n, word)) ≡ 0
 leaving_waits c n journals.online = refl
 leaving_waits c n journals.offline = refl
 leaving_waits c n journals.unclean = refl
@@ -80,11 +81,11 @@ leaving_waits c n journals.unsaid = unsaid_waits (c.properties.fencing && c.prop
 none_waits : (xs ys : List Event) → moment_of xs ≡ 0 → moment_of ys ≡ 0 → moment_of (xs ++ ys) ≡ 0
 none_waits xs ys h k = sum_by-append seconds_of xs ys ∙ omega arith
 
-leavings_wait : (c : Cluster) (n : ℕ) (words : List NodeWord) → moment_of (flat_map (leaving c) (enumerate_from n words)) ≡ 0
+leavings_wait : (c : Cluster) (n : ℕ) (words : List NodeSaid) → moment_of (flat_map (leaving c) (enumerate_from n words)) ≡ 0
 leavings_wait c n [] = refl
 leavings_wait c n (word ∷ words) = none_waits (leaving c (n, word)) _ (leaving_waits c n word) (leavings_wait c (n + 1) words)
 
-moment_is_now : (c : Cluster) (history : List Event) (words : List NodeWord) (quorum : Bool) (now : ℕ)
+moment_is_now : (c : Cluster) (history : List Event) (words : List NodeSaid) (quorum : Bool) (now : ℕ)
     → list_all (is_history_event (length c.nodes)) history ≡ true → moment_of (first_events c history words quorum now) ≡ now
 moment_is_now c history words quorum now h =
     let joins = map Up (range_with_len 0 (length c.nodes)) in
@@ -96,13 +97,13 @@ moment_is_now c history words quorum now h =
     sum_by-append seconds_of (joins ++ history ++ leaves) last ∙ omega arith
 
 -- the first journal is in order, has nothing in flight, and ends at the moment that is said
-pub journal_in_order : (c : Cluster) (lines : List Told) → list_all (is_known (length c.nodes)) lines ≡ true → Orderly (events_of c lines)
+pub journal_in_order : (c : Cluster) (lines : List Fact) → list_all (is_known (length c.nodes)) lines ≡ true → Orderly (events_of c lines)
 journal_in_order c lines h = in-order c (history_of lines) (map (word_of lines) (range_with_len 0 (length c.nodes))) (quorum_of lines) (now_of lines) (history_reported (length c.nodes) lines h)
 
-pub journal_is_idle : (c : Cluster) (lines : List Told) → list_all (is_known (length c.nodes)) lines ≡ true → in_flight_by_begin (events_of c lines) ≡ []
+pub journal_is_idle : (c : Cluster) (lines : List Fact) → list_all (is_known (length c.nodes)) lines ≡ true → in_flight_by_begin (events_of c lines) ≡ []
 journal_is_idle c lines h = nothing-in-flight c (history_of lines) (map (word_of lines) (range_with_len 0 (length c.nodes))) (quorum_of lines) (now_of lines) (history_reported (length c.nodes) lines h)
 
-pub journal_moment : (c : Cluster) (lines : List Told) → list_all (is_known (length c.nodes)) lines ≡ true → moment_of (events_of c lines) < 2 ^ 40
+pub journal_moment : (c : Cluster) (lines : List Fact) → list_all (is_known (length c.nodes)) lines ≡ true → moment_of (events_of c lines) < 2 ^ 40
 journal_moment c lines h =
     let small = now_small (length c.nodes) lines h in
     let same = moment_is_now c (history_of lines) (map (word_of lines) (range_with_len 0 (length c.nodes))) (quorum_of lines) (now_of lines) (history_reported (length c.nodes) lines h) in
@@ -113,7 +114,7 @@ abbrev cells_differ : List Promotion → Bool
 cells_differ [] = true
 cells_differ (p ∷ ps) = not (list_any (is_promotion_of_same_cell p) ps) && cells_differ ps
 
-same_of_cell : (p : Promotion) (lines : List Told) → list_any (is_promotion_of_same_cell p) (filter_map promotion_in lines) ≡ list_any (is_again (told.Promoting p)) lines
+same_of_cell : (p : Promotion) (lines : List Fact) → list_any (is_promotion_of_same_cell p) (filter_map promotion_in lines) ≡ list_any (is_again (told.Promoting p)) lines
 same_of_cell p [] = refl
 same_of_cell p (told.Now seconds ∷ lines) = same_of_cell p lines
 same_of_cell p (told.Quorum now ∷ lines) = same_of_cell p lines
@@ -121,7 +122,7 @@ same_of_cell p (told.Node node word ∷ lines) = same_of_cell p lines
 same_of_cell p (told.Past event ∷ lines) = same_of_cell p lines
 same_of_cell p (told.Promoting q ∷ lines) = ap (λ b. is_promotion_of_same_cell p q || b) (same_of_cell p lines)
 
-cells_of : (lines : List Told) → all_differ lines ≡ true → cells_differ (filter_map promotion_in lines) ≡ true
+cells_of : (lines : List Fact) → all_differ lines ≡ true → cells_differ (filter_map promotion_in lines) ≡ true
 cells_of [] h = refl
 cells_of (told.Now seconds ∷ lines) h = cells_of lines (later (not (list_any (is_again (told.Now seconds)) lines)) _ h)
 cells_of (told.Quorum now ∷ lines) h = cells_of lines (later (not (list_any (is_again (told.Quorum now)) lines)) _ h)
@@ -145,6 +146,6 @@ pairs_of (p ∷ ps) h zero (suc j) d l m = none_at (is_promotion_of_same_cell p)
 pairs_of (p ∷ ps) h (suc i) zero d l m = absurd (omega (arith, l))
 pairs_of (p ∷ ps) h (suc i) (suc j) d l m = pairs_of ps (later (not (list_any (is_promotion_of_same_cell p) ps)) _ h) i j d (omega (arith, l)) (omega (arith, m))
 
-pub promotions_differ : (lines : List Told) → all_differ lines ≡ true
+pub promotions_differ : (lines : List Fact) → all_differ lines ≡ true
     → AllPairs (λ (one other : Promotion). is_promotion_of_same_cell one other ≡ false) (filter_map promotion_in lines)
 promotions_differ lines h = pairs_of (filter_map promotion_in lines) (cells_of lines h)

@@ -5,7 +5,7 @@ use Rattle.cluster_types.specs.declared.cluster.Cluster.{Cluster}
 use Rattle.crm_lex.specs.Reading.{Kept, kept}
 use Rattle.faults.specs.Reading.{◌>>=◌}
 use Rattle.input_reading.specs.declared.words.word_cause.WordCause.{WordCause}
-use Rattle.input_reading.specs.Places.{WordsOfLine, code_at, line_end_at, leaf_at, node_at, number_at, seconds_at, word_at, yes_at}
+use Rattle.input_reading.specs.WordPlaces.{WordsOfLine, code_at, line_end_at, leaf_at, node_at, number_at, seconds_at, word_at, yes_at}
 use Rattle.input_reading.proofs.Kept.{get_within}
 use Rattle.input_reading.specs.declared.results.answers.ResultWord.{ResultWord}
 use Rattle.input_reading.specs.declared.results.answers.ResultWord.TheVariants.{End, Timeout, Lost, Up, Quorum, Wait, Report}

@@ -17,13 +17,13 @@ use Rattle.cluster_types.specs.declared.run.RunLine.TheVariants as line
 use Rattle.cluster_types.proofs.SmallClusters.{plain_leaf, two_nodes}
 use Rattle.input_reading.specs.declared.words.word_cause.WordCause.TheVariants.{BadValue, ExtraWord, MissingWord, UnknownName, UnknownStatement}
 use Rattle.input_reading.specs.LineWords.{action_word, action_word_at, id_at, line_word, pin_at, reason_of, target_at}
-use Rattle.input_reading.specs.Places.{code_at, leaf_at, node_at, number_at, seconds_at, yes_at}
+use Rattle.input_reading.specs.WordPlaces.{code_at, leaf_at, node_at, number_at, seconds_at, yes_at}
 use Rattle.input_reading.specs.Results.{answer_of, end_line, lost_line, quorum_answer, report_line, result_word, timeout_line, up_line, wait_line}
 use Rattle.input_reading.specs.RunReading.{aborted_line, answer_line, begin_line, complete_line, fence_at_end, held_line, lacking_line, line_of_words, migrate_from_at_end, migrate_to_at_end, monitor_at_end, number_alone, operation_at_end, pinned_line, plain_line, probe_at_end, target_line, transition_line, unexpected_line}
 use Rattle.input_reading.specs.Status.{cleanup_line, interval_at, node_line, now_line, op_at, op_line, outcome_at, promotable_at, promotion_line, quorum_line, score_at, state_at, status_word, told_of}
 use Rattle.input_reading.specs.declared.status.line_meaning.NodeWord.TheVariants.{Unclean}
-use Rattle.input_reading.specs.declared.status.line_meaning.Told.{Told}
-use Rattle.input_reading.specs.declared.status.line_meaning.Told.TheVariants.{Now, Quorum, Node, Past, Promoting}
+use Rattle.input_reading.specs.declared.status.line_meaning.Fact.{Fact}
+use Rattle.input_reading.specs.declared.status.line_meaning.Fact.TheVariants.{Now, Quorum, Node, Past, Promoting}
 use Rattle.input_reading.specs.Grammar.ResultForms.{ResultSays}
 use Rattle.input_reading.specs.Grammar.RunForms.{RunSays}
 use Rattle.input_reading.specs.Grammar.StatusForms.{StatusSays}
@@ -242,30 +242,30 @@ module _ where
   unfolding told_of status_word now_line quorum_line node_line op_line cleanup_line promotion_line seconds_at yes_at node_at leaf_at state_at op_at interval_at outcome_at promotable_at score_at
   wants_more = status-said small (codes "promotion" ∷ codes "n2" ∷ codes "db" ∷ codes "50" ∷ []) (Promoting (record { leaf = 1; node = 1; score = pos 50 })) refl
 
-  never_promoted : (fact : Told) → StatusSays small (codes "op" ∷ codes "n1" ∷ codes "vip" ∷ codes "promote" ∷ codes "0" ∷ codes "0" ∷ codes "90" ∷ []) fact → ⊥
+  never_promoted : (fact : Fact) → StatusSays small (codes "op" ∷ codes "n1" ∷ codes "vip" ∷ codes "promote" ∷ codes "0" ∷ codes "0" ∷ codes "90" ∷ []) fact → ⊥
   unfolding told_of status_word now_line quorum_line node_line op_line cleanup_line promotion_line seconds_at yes_at node_at leaf_at state_at op_at interval_at outcome_at promotable_at score_at
   never_promoted fact s = no-fact-said small (codes "op" ∷ codes "n1" ∷ codes "vip" ∷ codes "promote" ∷ codes "0" ∷ codes "0" ∷ codes "90" ∷ []) BadValue fact refl s
 
-  never_wanted : (fact : Told) → StatusSays small (codes "promotion" ∷ codes "n2" ∷ codes "vip" ∷ codes "50" ∷ []) fact → ⊥
+  never_wanted : (fact : Fact) → StatusSays small (codes "promotion" ∷ codes "n2" ∷ codes "vip" ∷ codes "50" ∷ []) fact → ⊥
   unfolding told_of status_word now_line quorum_line node_line op_line cleanup_line promotion_line seconds_at yes_at node_at leaf_at state_at op_at interval_at outcome_at promotable_at score_at
   never_wanted fact s = no-fact-said small (codes "promotion" ∷ codes "n2" ∷ codes "vip" ∷ codes "50" ∷ []) BadValue fact refl s
 
-  start_recurs : (fact : Told) → StatusSays small (codes "op" ∷ codes "n1" ∷ codes "vip" ∷ codes "start" ∷ codes "10000" ∷ codes "0" ∷ codes "90" ∷ []) fact → ⊥
+  start_recurs : (fact : Fact) → StatusSays small (codes "op" ∷ codes "n1" ∷ codes "vip" ∷ codes "start" ∷ codes "10000" ∷ codes "0" ∷ codes "90" ∷ []) fact → ⊥
   unfolding told_of status_word now_line quorum_line node_line op_line cleanup_line promotion_line seconds_at yes_at node_at leaf_at state_at op_at interval_at outcome_at promotable_at score_at
   start_recurs fact s = no-fact-said small (codes "op" ∷ codes "n1" ∷ codes "vip" ∷ codes "start" ∷ codes "10000" ∷ codes "0" ∷ codes "90" ∷ []) BadValue fact refl s
 
-  no_state : (fact : Told) → StatusSays small (codes "node" ∷ codes "n1" ∷ codes "standby" ∷ []) fact → ⊥
+  no_state : (fact : Fact) → StatusSays small (codes "node" ∷ codes "n1" ∷ codes "standby" ∷ []) fact → ⊥
   unfolding told_of status_word now_line quorum_line node_line op_line cleanup_line promotion_line seconds_at yes_at node_at leaf_at state_at op_at interval_at outcome_at promotable_at score_at
   no_state fact s = no-fact-said small (codes "node" ∷ codes "n1" ∷ codes "standby" ∷ []) BadValue fact refl s
 
-  too_late : (fact : Told) → StatusSays small (codes "now" ∷ codes "1099511627776" ∷ []) fact → ⊥
+  too_late : (fact : Fact) → StatusSays small (codes "now" ∷ codes "1099511627776" ∷ []) fact → ⊥
   unfolding told_of status_word now_line quorum_line node_line op_line cleanup_line promotion_line seconds_at yes_at node_at leaf_at state_at op_at interval_at outcome_at promotable_at score_at
   too_late fact s = no-fact-said small (codes "now" ∷ codes "1099511627776" ∷ []) BadValue fact refl s
 
-  no_moment : (fact : Told) → StatusSays small (codes "op" ∷ codes "n1" ∷ codes "vip" ∷ codes "start" ∷ codes "0" ∷ codes "0" ∷ []) fact → ⊥
+  no_moment : (fact : Fact) → StatusSays small (codes "op" ∷ codes "n1" ∷ codes "vip" ∷ codes "start" ∷ codes "0" ∷ codes "0" ∷ []) fact → ⊥
   unfolding told_of status_word now_line quorum_line node_line op_line cleanup_line promotion_line seconds_at yes_at node_at leaf_at state_at op_at interval_at outcome_at promotable_at score_at
   no_moment fact s = no-fact-said small (codes "op" ∷ codes "n1" ∷ codes "vip" ∷ codes "start" ∷ codes "0" ∷ codes "0" ∷ []) MissingWord fact refl s
 
-  an_answer : (fact : Told) → StatusSays small (codes "wait" ∷ codes "5" ∷ []) fact → ⊥
+  an_answer : (fact : Fact) → StatusSays small (codes "wait" ∷ codes "5" ∷ []) fact → ⊥
   unfolding told_of status_word now_line quorum_line node_line op_line cleanup_line promotion_line seconds_at yes_at node_at leaf_at state_at op_at interval_at outcome_at promotable_at score_at
   an_answer fact s = no-fact-said small (codes "wait" ∷ codes "5" ∷ []) UnknownStatement fact refl s

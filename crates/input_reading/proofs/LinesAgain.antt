@@ -18,11 +18,11 @@ use Rattle.cluster_types.specs.Fields.{leaf_name}
 use Rattle.cluster_types.specs.Texts.{node_name}
 use Rattle.cluster_types.specs.Valid.{IsValid}
 use Rattle.crm_lex.specs.Names.{is_name}
-use Rattle.input_reading.specs.Places.{WordsOfLine, code_at, leaf_at, node_at, number_at, seconds_at, yes_at}
+use Rattle.input_reading.specs.WordPlaces.{WordsOfLine, code_at, leaf_at, node_at, number_at, seconds_at, yes_at}
 use Rattle.input_reading.specs.Results.{answer_of, end_line, lost_line, quorum_answer, report_line, result_word, timeout_line, up_line, wait_line}
 use Rattle.input_reading.specs.LineWords.{action_word, action_word_at, id_at, line_word, pin_at, reason_of, target_at}
 use Rattle.input_reading.specs.RunReading.{aborted_line, answer_line, begin_line, complete_line, fence_at_end, held_line, lacking_line, line_of_words, migrate_from_at_end, migrate_to_at_end, monitor_at_end, number_alone, operation_at_end, pinned_line, plain_line, probe_at_end, target_line, transition_line, unexpected_line}
-use Rattle.input_reading.specs.Written.{IsActionOf, IsAnswerOf, IsLineOf, IsNumber}
+use Rattle.input_reading.specs.PrintedLines.{IsActionOf, IsAnswerOf, IsLineOf, IsNumber}
 use Rattle.input_reading.proofs.Names.{leaf_again, node_again}
 use Rattle.input_reading.proofs.Numbers.{code_again, number_again, seconds_again}
 use Rattle.input_reading.proofs.WordsOfLines.{line_words}

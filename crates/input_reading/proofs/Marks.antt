@@ -12,7 +12,7 @@ use Rattle.input_reading.specs.declared.input.cause.InputCause.{InputCause}
 use Rattle.input_reading.specs.declared.input.cause.InputCause.TheVariants as cause
 use Rattle.input_reading.specs.declared.input.sections.LastSection.{LastSection}
 use Rattle.input_reading.specs.declared.input.sections.LastSection.TheVariants.{Results, Trace}
-use Rattle.input_reading.specs.Sections.{sections_by}
+use Rattle.input_reading.specs.Inner.Sections.{sections_by}
 
 pub position_within : {X : Type 0} (p : X → Bool) (xs : List X) → position_or_len p xs ≤ length xs
 position_within p xs = prefix_len-le-length (λ x. not (p x)) xs

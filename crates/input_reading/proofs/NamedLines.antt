@@ -17,7 +17,7 @@ use Rattle.faults.specs.declared.fault.Fault.{Fault}
 use Rattle.faults.specs.Reading.{◌>>=◌, on_line}
 use Rattle.input_reading.specs.declared.words.word_cause.WordCause.{WordCause}
 use Rattle.input_reading.specs.declared.words.word_cause.WordCause.TheVariants.{BadValue}
-use Rattle.input_reading.specs.Places.{WordsOfLine, line_end_at, leaf_at, node_at, number_at, word_at}
+use Rattle.input_reading.specs.WordPlaces.{WordsOfLine, line_end_at, leaf_at, node_at, number_at, word_at}
 use Rattle.input_reading.specs.declared.run.text.RunTextLine.{RunTextLine}
 use Rattle.input_reading.specs.declared.run.words.ActionWord.{ActionWord}
 use Rattle.input_reading.specs.declared.run.words.LineWord.{LineWord}
@@ -25,7 +25,7 @@ use Rattle.input_reading.specs.declared.run.words.LineWord.TheVariants as word
 use Rattle.input_reading.specs.LineWords.{action_word_at, id_at, line_word, pin_at, reason_of, target_at}
 use Rattle.input_reading.specs.RunReading.{aborted_line, action_as, answer_line, begin_line, complete_line, held_line, lacking_line, line_as, line_of_words, read_run_lines, number_alone, pinned_line, plain_line, target_line, text_line, transition_line, unexpected_line, with_run_lines}
 use Rattle.input_reading.specs.Results.{answer_of}
-use Rattle.input_reading.specs.Written.{AreNamed, IsLineNamed}
+use Rattle.input_reading.specs.PrintedLines.{AreNamed, IsLineNamed}
 
 -- a number alone behind the first word
 number_then : (make : ℕ → RunLine) → ((k : ℕ) → IsLineNamed (make k)) → (read : Result ℕ WordCause) → IfOk (read >>= (λ k. Ok (make k))) IsLineNamed

@@ -11,7 +11,7 @@ use Rattle.crm_lex.specs.Names.{is_name, is_name_byte}
 use Rattle.faults.specs.Digits.{number_up_to}
 use Rattle.faults.proofs.Numbers.{digits, is_number-true}
 use Rattle.input_reading.specs.Numbers.{above_0, read_exit_code, read_action_number, read_seconds}
-use Rattle.input_reading.specs.Written.{IsNumber}
+use Rattle.input_reading.specs.PrintedLines.{IsNumber}
 
 up_to_again : (most n : ℕ) → n ≤ most → n < 2 ^ 64 → number_up_to most (decimal n) ≡ Some n
 up_to_again most n le h =

@@ -10,7 +10,7 @@ use Rattle.crm_parse.proofs.Binds.{is-true}
 use Rattle.faults.specs.Digits.{is_number, number_up_to}
 use Rattle.faults.proofs.Numbers.{is_number-true}
 use Rattle.input_reading.specs.Numbers.{above_0, read_action_number}
-use Rattle.input_reading.specs.Places.{yes_or_no}
+use Rattle.input_reading.specs.WordPlaces.{yes_or_no}
 use Rattle.input_reading.specs.Grammar.WordValues.{SaysWhether, WritesNumber, WritesPositive, says_no, says_yes}
 
 number-parts : (most : ℕ) (word : List ℕ) → is_number most word ≡ true

@@ -11,7 +11,7 @@ use Rattle.faults.proofs.Steps.{bind-ok}
 use Rattle.input_reading.specs.declared.words.word_cause.WordCause.{WordCause}
 use Rattle.input_reading.specs.declared.words.word_cause.WordCause.TheVariants.{BadValue, UnknownName}
 use Rattle.input_reading.specs.Numbers.{read_action_number, read_exit_code, read_seconds}
-use Rattle.input_reading.specs.Places.{WordsOfLine, code_at, leaf_at, line_end_at, node_at, number_at, seconds_at, word_at, yes_at, yes_or_no}
+use Rattle.input_reading.specs.WordPlaces.{WordsOfLine, code_at, leaf_at, line_end_at, node_at, number_at, seconds_at, word_at, yes_at, yes_or_no}
 use Rattle.names.specs.Names.{leaf_of_word, node_of_word}
 use Rattle.input_reading.specs.Grammar.WordValues.{NamesLeaf, NamesNode, SaysWhether, WritesCode, WritesPositive, WritesSeconds}
 use Rattle.input_reading.proofs.NamesSaid.{name-said}

@@ -4,7 +4,7 @@ use Rattle.std.proofs.Math.Bool.{or-false}
 use Rattle.std.specs.HashSet.{contains}
 use Rattle.lemmas.proofs.Booleans.{cond-or}
 use Rattle.cluster_types.specs.declared.journal.Promotion.{Promotion}
-use Rattle.input_reading.specs.declared.status.line_meaning.Told.TheVariants.{Now, Quorum, Node, Past, Promoting}
+use Rattle.input_reading.specs.declared.status.line_meaning.Fact.TheVariants.{Now, Quorum, Node, Past, Promoting}
 use Rattle.input_reading.specs.declared.status.told_keys.ToldKeys.{ToldKeys}
 use Rattle.input_reading.specs.Inner.Repeats.{is_same_pair, AddsKey}
 

@@ -12,7 +12,7 @@ use Rattle.faults.specs.Reading.{◌>>=◌}
 use Rattle.faults.proofs.Steps.{bind-ok}
 use Rattle.input_reading.specs.declared.words.word_cause.WordCause.{WordCause}
 use Rattle.input_reading.specs.declared.words.word_cause.WordCause.TheVariants.{BadValue}
-use Rattle.input_reading.specs.Places.{WordsOfLine, code_at, leaf_at, line_end_at, node_at, number_at, seconds_at, word_at, yes_at}
+use Rattle.input_reading.specs.WordPlaces.{WordsOfLine, code_at, leaf_at, line_end_at, node_at, number_at, seconds_at, word_at, yes_at}
 use Rattle.input_reading.specs.Results.{answer_as, answer_of, end_line, in_time, lost_line, quorum_answer, report_line, result_word, timeout_line, up_line, wait_line}
 use Rattle.input_reading.specs.Grammar.ResultForms.{ResultSays, end_form, lost_form, quorum_form, report_form, timeout_form, up_form, wait_form}
 use Rattle.input_reading.proofs.NamesSaid.{name-read}

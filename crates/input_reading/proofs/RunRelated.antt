@@ -14,7 +14,7 @@ use Rattle.faults.proofs.Steps.{bind-ok}
 use Rattle.input_reading.specs.declared.words.word_cause.WordCause.{WordCause}
 use Rattle.input_reading.specs.declared.words.word_cause.WordCause.TheVariants.{BadValue}
 use Rattle.input_reading.specs.LineWords.{id_at, line_word, pin_at, reason_of, target_at}
-use Rattle.input_reading.specs.Places.{WordsOfLine, leaf_at, line_end_at, node_at, number_at, word_at}
+use Rattle.input_reading.specs.WordPlaces.{WordsOfLine, leaf_at, line_end_at, node_at, number_at, word_at}
 use Rattle.input_reading.specs.Results.{answer_of}
 use Rattle.input_reading.specs.RunReading.{aborted_line, answer_line, complete_line, held_line, lacking_line, line_as, line_of_words, number_alone, pinned_line, plain_line, target_line, transition_line, unexpected_line}
 use Rattle.input_reading.specs.Grammar.ResultForms.{ResultSays, end_form, lost_form, quorum_form, report_form, timeout_form, up_form, wait_form}

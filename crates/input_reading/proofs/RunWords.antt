@@ -12,7 +12,7 @@ use Rattle.faults.proofs.Steps.{bind-ok}
 use Rattle.input_reading.specs.declared.words.word_cause.WordCause.{WordCause}
 use Rattle.input_reading.specs.declared.words.word_cause.WordCause.TheVariants.{BadValue}
 use Rattle.input_reading.specs.LineWords.{id_at, pin_at, pin_named, reason_of, target_at, target_of}
-use Rattle.input_reading.specs.Places.{WordsOfLine, word_at}
+use Rattle.input_reading.specs.WordPlaces.{WordsOfLine, word_at}
 use Rattle.input_reading.specs.Grammar.RunForms.{SaysPin, SaysReason, SaysTarget, for_no_copies, for_no_node, for_no_quorum, for_on_fail, for_stop_all, for_stopped, is_blocked, is_unmanaged, to_be_promoted, to_be_started}
 use Rattle.input_reading.proofs.PlacesSaid.{IsAt, table-at, word-here}
 use Rattle.input_reading.proofs.TablesSaid.{ask-some, says-it}

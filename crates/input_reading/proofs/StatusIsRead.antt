@@ -7,10 +7,10 @@ use Rattle.cluster_types.specs.declared.journal.Action.{Action}
 use Rattle.cluster_types.specs.declared.journal.Event.TheVariants.{Ended}
 use Rattle.cluster_types.specs.declared.journal.Outcome.{Outcome}
 use Rattle.input_reading.specs.declared.words.word_cause.WordCause.{WordCause}
-use Rattle.input_reading.specs.Places.{WordsOfLine, leaf_at, node_at, seconds_at, yes_at}
+use Rattle.input_reading.specs.WordPlaces.{WordsOfLine, leaf_at, node_at, seconds_at, yes_at}
 use Rattle.input_reading.specs.Status.{cleanup_line, interval_at, node_line, now_line, op_at, op_line, outcome_at, promotable_at, promotion_line, quorum_line, score_at, state_at, status_word, told_of}
-use Rattle.input_reading.specs.declared.status.line_meaning.Told.{Told}
-use Rattle.input_reading.specs.declared.status.line_meaning.Told.TheVariants.{Past}
+use Rattle.input_reading.specs.declared.status.line_meaning.Fact.{Fact}
+use Rattle.input_reading.specs.declared.status.line_meaning.Fact.TheVariants.{Past}
 use Rattle.input_reading.specs.Grammar.StatusForms.{ActionEnded, SaysOutcome, StatusSays, a_demote, a_monitor, a_probe, a_promote, a_start, a_stop, cleanup_form, node_form, now_form, op_form, promotion_form, quorum_form}
 use Rattle.input_reading.proofs.ActionRelated.{leaf-found, node-found}
 use Rattle.input_reading.proofs.NumbersSaid.{number-read, whether-read}
@@ -44,7 +44,7 @@ module _ (c : Cluster) where
   outcome-there name leaf_name op ms code number outcome x = rw (outcome-read code outcome x) refl
 
   -- what says a fact is read as it
-  pub status-read : (words : WordsOfLine) (told : Told) → StatusSays c words told → told_of c words ≡ Ok told
+  pub status-read : (words : WordsOfLine) (told : Fact) → StatusSays c words told → told_of c words ≡ Ok told
   unfolding told_of status_word now_line quorum_line node_line cleanup_line promotion_line seconds_at yes_at node_at leaf_at state_at promotable_at score_at
   status-read ws t (now_form number seconds n) = rw (number-read 0 1099511627775 number seconds n) refl
   status-read ws t (quorum_form word now s) = rw (whether-read word now s) refl
@@ -56,18 +56,18 @@ module _ (c : Cluster) where
   status-read ws t (promotion_form name leaf_name word node leaf score a b p s) = rw (node-found c name node a, leaf-found c leaf_name leaf b, p, s) refl
 
   -- a line says one fact
-  pub one-fact : (words : WordsOfLine) (one other : Told) → StatusSays c words one → StatusSays c words other → one ≡ other
+  pub one-fact : (words : WordsOfLine) (one other : Fact) → StatusSays c words one → StatusSays c words other → one ≡ other
   one-fact words one other s t = ok-one one other (sym (status-read words one s) ∙ status-read words other t)
 
-  refused-case : (words : WordsOfLine) (read : Result Told WordCause) → told_of c words ≡ read → ((told : Told) → StatusSays c words told → ⊥)
+  refused-case : (words : WordsOfLine) (read : Result Fact WordCause) → told_of c words ≡ read → ((told : Fact) → StatusSays c words told → ⊥)
       → (cause : WordCause) × (told_of c words ≡ Err cause)
   refused-case words (Ok told) e h = absurd (h told (status-said c words told e))
   refused-case words (Err cause) e h = (cause, e)
 
   -- a line that says none is refused
-  pub no-fact : (words : WordsOfLine) → ((told : Told) → StatusSays c words told → ⊥) → (cause : WordCause) × (told_of c words ≡ Err cause)
+  pub no-fact : (words : WordsOfLine) → ((told : Fact) → StatusSays c words told → ⊥) → (cause : WordCause) × (told_of c words ≡ Err cause)
   no-fact words h = refused-case words (told_of c words) refl h
 
   -- and a line that is refused says none
-  pub no-fact-said : (words : WordsOfLine) (cause : WordCause) (told : Told) → told_of c words ≡ Err cause → StatusSays c words told → ⊥
+  pub no-fact-said : (words : WordsOfLine) (cause : WordCause) (told : Fact) → told_of c words ≡ Err cause → StatusSays c words told → ⊥
   no-fact-said words cause told e s = let f : Err cause ≡ Ok told = sym e ∙ status-read words told s in cc

@@ -15,14 +15,15 @@ use Rattle.cluster_types.specs.declared.leaf.Op.{Op}
 use Rattle.cluster_types.specs.declared.leaf.Op.TheVariants.{Start, Stop, Promote, Demote, Monitor}
 use Rattle.cluster_types.specs.declared.leaf.Role.{Role}
 use Rattle.cluster_types.specs.Fields.{monitors}
-use Rattle.cluster_types.specs.Answering.{role_of_interval}
+use Rattle.cluster_types.specs.AnswersThatApply.{role_of_interval}
 use Rattle.cluster_types.specs.Journals.{Orderly, in_flight_by_begin, is_history_event}
 use Rattle.faults.specs.Reading.{◌>>=◌, faulting, on_line}
-use Rattle.input_reading.specs.Places.{WordsOfLine, line_end_at, leaf_at, node_at, seconds_at, word_at, yes_at}
+use Rattle.input_reading.specs.WordPlaces.{WordsOfLine, line_end_at, leaf_at, node_at, seconds_at, word_at, yes_at}
 use Rattle.input_reading.proofs.Bounds.{node_known, seconds_small}
 use Rattle.input_reading.proofs.Steps.{any_step, either_way, step}
 use Rattle.input_reading.specs.FirstJournal as journals
-use Rattle.input_reading.specs.FirstJournal.{is_known, is_repeated, status_journal}
+use Rattle.input_reading.specs.FirstJournal.{is_repeated, status_journal}
+use Rattle.input_reading.specs.Inner.FirstJournal.{is_known}
 use Rattle.input_reading.specs.declared.history_fault.StatusCause.TheVariants.{Form}
 use Rattle.input_reading.specs.Status.{history_action, cleanup_line, interval_at, node_line, now_line, op_at, op_line, outcome_at, promotable_at, promotion_line, quorum_line, score_at, state_at, status_word, told_as, told_of}
 use Rattle.input_reading.proofs.FirstJournals.{journal_in_order, journal_is_idle, one_more_known}

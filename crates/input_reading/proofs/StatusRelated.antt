@@ -13,10 +13,10 @@ use Rattle.faults.proofs.Steps.{bind-ok}
 use Rattle.input_reading.specs.declared.words.word_cause.WordCause.{WordCause}
 use Rattle.input_reading.specs.declared.words.word_cause.WordCause.TheVariants.{BadValue}
 use Rattle.input_reading.specs.declared.status.line_meaning.NodeWord.{NodeWord}
-use Rattle.input_reading.specs.declared.status.line_meaning.Told.{Told}
-use Rattle.input_reading.specs.declared.status.line_meaning.Told.TheVariants.{Now, Quorum, Node, Past, Promoting}
+use Rattle.input_reading.specs.declared.status.line_meaning.Fact.{Fact}
+use Rattle.input_reading.specs.declared.status.line_meaning.Fact.TheVariants.{Now, Quorum, Node, Past, Promoting}
 use Rattle.input_reading.specs.OpWords.{operation_named}
-use Rattle.input_reading.specs.Places.{WordsOfLine, leaf_at, line_end_at, node_at, seconds_at, word_at, yes_at}
+use Rattle.input_reading.specs.WordPlaces.{WordsOfLine, leaf_at, line_end_at, node_at, seconds_at, word_at, yes_at}
 use Rattle.input_reading.specs.Status.{cleanup_line, history_action, interval_as, interval_at, may_have, node_line, node_word, now_line, op_at, op_line, outcome_at, outcome_of, promotable_at, promotion_line, quorum_line, score_at, state_at, status_word, told_as, told_of}
 use Rattle.input_reading.specs.Grammar.StatusForms.{SaysOutcome, SaysState, StatusSays, cleanup_form, node_form, now_form, op_form, promotion_form, quorum_form}
 use Rattle.input_reading.proofs.PlacesSaid.{IsAt, ask, begins-with, by-form, end-here, leaf-at, node-at, ok-one, ok_or-some, onto, seconds-at, table-at, whether-at, word-here}
@@ -24,7 +24,7 @@ use Rattle.input_reading.proofs.StatusWords.{ended-said, outcome-said, state-sai
 use Rattle.input_reading.proofs.TablesSaid.{IsOperation, operation-said}
 
 module _ (c : Cluster) where
-  now-said : (words : WordsOfLine) (told : Told) → words ≡ codes "now" ∷ drop 1 words → now_line words ≡ Ok told → StatusSays c words told
+  now-said : (words : WordsOfLine) (told : Fact) → words ≡ codes "now" ∷ drop 1 words → now_line words ≡ Ok told → StatusSays c words told
   unfolding now_line
   now-said words told first e =
       let (seconds, number, e1) = bind-ok (seconds_at 1 words) _ told e in
@@ -33,7 +33,7 @@ module _ (c : Cluster) where
       by-form (StatusSays c) words (codes "now" ∷ a.word ∷ []) (Now seconds) told (onto _ first (onto _ a.here (end-here 2 words end last))) e2
       (now_form a.word seconds a.says)
 
-  quorum-said : (words : WordsOfLine) (told : Told) → words ≡ codes "quorum" ∷ drop 1 words → quorum_line words ≡ Ok told → StatusSays c words told
+  quorum-said : (words : WordsOfLine) (told : Fact) → words ≡ codes "quorum" ∷ drop 1 words → quorum_line words ≡ Ok told → StatusSays c words told
   unfolding quorum_line
   quorum-said words told first e =
       let (now, whether, e1) = bind-ok (yes_at 1 words) _ told e in
@@ -46,7 +46,7 @@ module _ (c : Cluster) where
   unfolding state_at
   state-at place words state e = table-at SaysState node_word BadValue state-said place words state e
 
-  node-said : (words : WordsOfLine) (told : Told) → words ≡ codes "node" ∷ drop 1 words → node_line c words ≡ Ok told → StatusSays c words told
+  node-said : (words : WordsOfLine) (told : Fact) → words ≡ codes "node" ∷ drop 1 words → node_line c words ≡ Ok told → StatusSays c words told
   unfolding node_line
   node-said words told first e =
       let (node, named, e1) = bind-ok (node_at c 1 words) _ told e in
@@ -85,7 +85,7 @@ module _ (c : Cluster) where
   unfolding interval_at
   interval-at op place words n e = table-at (λ word m. interval_as op word ≡ Some m) (interval_as op) BadValue (λ word m h. h) place words n e
 
-  op-said : (words : WordsOfLine) (told : Told) → words ≡ codes "op" ∷ drop 1 words → op_line c words ≡ Ok told → StatusSays c words told
+  op-said : (words : WordsOfLine) (told : Fact) → words ≡ codes "op" ∷ drop 1 words → op_line c words ≡ Ok told → StatusSays c words told
   unfolding op_line outcome_at
   op-said words told first e =
       let (node, node_named, e1) = bind-ok (node_at c 1 words) _ told e in
@@ -107,7 +107,7 @@ module _ (c : Cluster) where
       (op_form a.word b.word o.word i.word x.word s.word node leaf (history_action c op leaf node interval) outcome moment a.says b.says
       (ended-said c leaf node o.word i.word op interval o.named o.may i.says) x.says s.says)
 
-  cleanup-said : (words : WordsOfLine) (told : Told) → words ≡ codes "cleanup" ∷ drop 1 words → cleanup_line c words ≡ Ok told → StatusSays c words told
+  cleanup-said : (words : WordsOfLine) (told : Fact) → words ≡ codes "cleanup" ∷ drop 1 words → cleanup_line c words ≡ Ok told → StatusSays c words told
   unfolding cleanup_line
   cleanup-said words told first e =
       let (node, node_named, e1) = bind-ok (node_at c 1 words) _ told e in
@@ -129,7 +129,7 @@ module _ (c : Cluster) where
       let is_so = promotable-case found leaf (is_promotable c found) e1 in
       (named ∙ ap Ok is_so.0, subst (λ r. is_promotable c r ≡ true) is_so.0 is_so.1)
 
-  promotion-said : (words : WordsOfLine) (told : Told) → words ≡ codes "promotion" ∷ drop 1 words → promotion_line c words ≡ Ok told → StatusSays c words told
+  promotion-said : (words : WordsOfLine) (told : Fact) → words ≡ codes "promotion" ∷ drop 1 words → promotion_line c words ≡ Ok told → StatusSays c words told
   unfolding promotion_line score_at
   promotion-said words told first e =
       let (node, node_named, e1) = bind-ok (node_at c 1 words) _ told e in
@@ -144,7 +144,7 @@ module _ (c : Cluster) where
       (onto _ first (onto _ a.here (onto _ b.here (onto _ s.here (end-here 4 words end last))))) e4
       (promotion_form a.word b.word s.word node leaf score a.says b.says is_so.1 s.says)
 
-  by-first : (words : WordsOfLine) (first : List ℕ) (told : Told) → words ≡ first ∷ drop 1 words
+  by-first : (words : WordsOfLine) (first : List ℕ) (told : Fact) → words ≡ first ∷ drop 1 words
       → (status_word first >>= (λ form. told_as c form words)) ≡ Ok told → StatusSays c words told
   unfolding status_word
   by-first words first told here e =
@@ -156,7 +156,7 @@ module _ (c : Cluster) where
       ask (is first (codes "promotion")) _ _ _ told e (λ h f. promotion-said words told (begins-with words first _ here h) f) (λ e. absurd (cc)))))))
 
   -- what is read says it
-  pub status-said : (words : WordsOfLine) (told : Told) → told_of c words ≡ Ok told → StatusSays c words told
+  pub status-said : (words : WordsOfLine) (told : Fact) → told_of c words ≡ Ok told → StatusSays c words told
   unfolding told_of
   status-said words told e =
       let (first, at, rest) = bind-ok (word_at 0 words) _ told e in

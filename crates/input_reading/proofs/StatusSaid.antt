@@ -9,7 +9,7 @@ use Rattle.faults.specs.Reading.{◌>>=◌, Gives, faulting, on_line}
 use Rattle.faults.proofs.Steps.{bind-ok, faulting-ok, on_line-ok}
 use Rattle.input_reading.specs.declared.history_fault.StatusCause.{StatusCause}
 use Rattle.input_reading.specs.declared.history_fault.StatusCause.TheVariants.{Form, Repeated}
-use Rattle.input_reading.specs.declared.status.line_meaning.Told.{Told}
+use Rattle.input_reading.specs.declared.status.line_meaning.Fact.{Fact}
 use Rattle.input_reading.specs.declared.words.word_cause.WordCause.{WordCause}
 use Rattle.input_reading.specs.FirstJournal.{is_repeated, journal_of, status_journal, with_status_line, with_status_lines, with_told}
 use Rattle.input_reading.specs.Grammar.LinesSaid.{AsLinesSay, IsStatusRefused, StatusIsSaid, StatusLineRefused, StatusLineSays, no_status_form, said_before}
@@ -20,55 +20,55 @@ use Rattle.input_reading.proofs.StatusIsRead.{no-fact, no-fact-said, status-read
 use Rattle.input_reading.proofs.StatusRelated.{status-said}
 
 module _ (c : Cluster) where
-  abbrev Says : List Told → Line → Told → Type 0
+  abbrev Says : List Fact → Line → Fact → Type 0
   Says = StatusLineSays c
 
-  abbrev Refused : List Told → Line → StatusCause → Type 0
+  abbrev Refused : List Fact → Line → StatusCause → Type 0
   Refused = StatusLineRefused c
 
-  once-case : (before : List Told) (line : ℕ) (told : Told) (more : List Told) (test : Bool) → (let read : Result (List Told) (Fault StatusCause) = cond test (Err (At line Repeated)) (Ok (before ++ told ∷ [])) in read) ≡ Ok more
+  once-case : (before : List Fact) (line : ℕ) (told : Fact) (more : List Fact) (test : Bool) → (let read : Result (List Fact) (Fault StatusCause) = cond test (Err (At line Repeated)) (Ok (before ++ told ∷ [])) in read) ≡ Ok more
       → (more ≡ before ++ told ∷ []) × (test ≡ false)
   once-case before line told more true e = cc
   once-case before line told more false e = (cc, refl)
 
-  step-said : (before : List Told) (line : Line) (more : List Told) → with_status_line c before line ≡ Ok more
-      → (told : Told) × (more ≡ before ++ told ∷ []) × StatusLineSays c before line told
+  step-said : (before : List Fact) (line : Line) (more : List Fact) → with_status_line c before line ≡ Ok more
+      → (told : Fact) × (more ≡ before ++ told ∷ []) × StatusLineSays c before line told
   step-said before line more e =
       let (told, is, rest) = bind-ok (faulting Form (on_line line.line (told_of c line.words))) (with_told before line.line) more e in
       let read = on_line-ok line.line (told_of c line.words) told (faulting-ok Form (on_line line.line (told_of c line.words)) told is) in
       let once = once-case before line.line told more (is_repeated before told) rest in
       (told, once.0, record { says = status-said c line.words told read; once = once.1 })
 
-  step-read : (before : List Told) (line : Line) (told : Told) → StatusLineSays c before line told → with_status_line c before line ≡ Ok (before ++ told ∷ [])
+  step-read : (before : List Fact) (line : Line) (told : Fact) → StatusLineSays c before line told → with_status_line c before line ≡ Ok (before ++ told ∷ [])
   step-read before line told s = rw (status-read c line.words told s.says, s.once) refl
 
-  again-case : (before : List Told) (line : Line) (told : Told) (fault : Fault StatusCause) (test : Bool) → is_repeated before told ≡ test → StatusSays c line.words told
-      → (let read : Result (List Told) (Fault StatusCause) = cond test (Err (At line.line Repeated)) (Ok (before ++ told ∷ [])) in read) ≡ Err fault
+  again-case : (before : List Fact) (line : Line) (told : Fact) (fault : Fault StatusCause) (test : Bool) → is_repeated before told ≡ test → StatusSays c line.words told
+      → (let read : Result (List Fact) (Fault StatusCause) = cond test (Err (At line.line Repeated)) (Ok (before ++ told ∷ [])) in read) ≡ Err fault
       → IsLineFault Says Refused before line fault
   again-case before line told fault true t says e =
       let same : At line.line Repeated ≡ fault = cc in
       subst (IsLineFault Says Refused before line) same (refl, said_before told says t)
   again-case before line told fault false t says e = cc
 
-  refused-case : (before : List Told) (line : Line) (fault : Fault StatusCause) (read : Result Told WordCause) → told_of c line.words ≡ read
+  refused-case : (before : List Fact) (line : Line) (fault : Fault StatusCause) (read : Result Fact WordCause) → told_of c line.words ≡ read
       → (faulting Form (on_line line.line read) >>= with_told before line.line) ≡ Err fault → IsLineFault Says Refused before line fault
   refused-case before line fault (Ok told) is e = again-case before line told fault (is_repeated before told) refl (status-said c line.words told is) e
   refused-case before line fault (Err cause) is e =
       let same : At line.line (Form cause) ≡ fault = cc in
       subst (IsLineFault Says Refused before line) same (refl, no_status_form cause (λ told says. no-fact-said c line.words cause told is says))
 
-  step-refused : (before : List Told) (line : Line) (fault : Fault StatusCause) → with_status_line c before line ≡ Err fault → IsLineFault Says Refused before line fault
+  step-refused : (before : List Fact) (line : Line) (fault : Fault StatusCause) → with_status_line c before line ≡ Err fault → IsLineFault Says Refused before line fault
   step-refused before line fault e = refused-case before line fault (told_of c line.words) refl e
 
-  step-refuses : (before : List Told) (line : Line) (cause : StatusCause) → StatusLineRefused c before line cause
+  step-refuses : (before : List Fact) (line : Line) (cause : StatusCause) → StatusLineRefused c before line cause
       → (fault : Fault StatusCause) × (with_status_line c before line ≡ Err fault)
   step-refuses before line cause (no_status_form why none) = let (found, e) = no-fact c line.words none in (At line.line (Form found), rw e refl)
   step-refuses before line cause (said_before told says again) = (At line.line Repeated, rw (status-read c line.words told says, again) refl)
 
-  none : (told : List Told) → with_status_lines c told [] ≡ Ok told
+  none : (told : List Fact) → with_status_lines c told [] ≡ Ok told
   none told = refl
 
-  some : (told : List Told) (line : Line) (lines : List Line) → with_status_lines c told (line ∷ lines) ≡ (with_status_line c told line >>= (λ more. with_status_lines c more lines))
+  some : (told : List Fact) (line : Line) (lines : List Line) → with_status_lines c told (line ∷ lines) ≡ (with_status_line c told line >>= (λ more. with_status_lines c more lines))
   some told line lines = refl
 
   -- what is read is said
@@ -89,7 +89,7 @@ module _ (c : Cluster) where
       = lines-read Says Refused (with_status_line c) (with_status_lines c) none some step-said step-read step-refused step-refuses lines s.facts s.said in
       rw read (ap Ok (sym s.is))
 
-  faulty-case : (lines : List Line) (number : ℕ) (cause : StatusCause) (read : Result (List Told) (Fault StatusCause)) → with_status_lines c [] lines ≡ read
+  faulty-case : (lines : List Line) (number : ℕ) (cause : StatusCause) (read : Result (List Fact) (Fault StatusCause)) → with_status_lines c [] lines ≡ read
       → (let whole : Result Journal (Fault StatusCause) = read >>= (λ told. Ok (journal_of c told)) in whole) ≡ Err (At number cause)
       → with_status_lines c [] lines ≡ Err (At number cause)
   faulty-case lines number cause (Ok told) is e = cc

@@ -21,14 +21,15 @@ use Rattle.crm_lex.specs.Names.{is_name, is_name_byte}
 use Rattle.crm_lex.specs.Reading.{reads}
 use Rattle.crm_print.proofs.Clean.{EachClean, clean-name}
 use Rattle.crm_print.specs.Items.{word}
-use Rattle.crm_print.specs.Quoting.{Item, begins_with_hash, is_plain, item_word, items_line, needs_quotes, quoted, spaced}
+use Rattle.crm_print.specs.Quoting.{Item, begins_with_hash, is_plain, items_line, needs_quotes, quoted, spaced}
+use Rattle.crm_print.specs.Inner.Quoting.{item_word}
 use Rattle.crm_print.proofs.Lines.{is_filled}
 use Rattle.crm_print.proofs.TextReads.{Readable, ended_lines, text-reads}
 use Rattle.crm_print.proofs.TextReads as text
-use Rattle.input_reading.specs.Places.{WordsOfLine}
+use Rattle.input_reading.specs.WordPlaces.{WordsOfLine}
 use Rattle.input_reading.specs.declared.run.text.RunTextLine.{RunTextLine}
 use Rattle.input_reading.specs.RunReading.{text_line, with_run_lines}
-use Rattle.input_reading.specs.Written.{IsActionOf, IsAnswerOf, IsLineOf, IsNumber, ReadsAgain, with_line_numbers}
+use Rattle.input_reading.specs.PrintedLines.{IsActionOf, IsAnswerOf, IsLineOf, IsNumber, ReadsAgain, with_line_numbers}
 use Rattle.input_reading.proofs.LinesAgain.{line_again}
 use Rattle.input_reading.proofs.Names.{leaf_is_name, node_is_name}
 use Rattle.input_reading.proofs.Numbers.{number_is_name}

@@ -25,8 +25,8 @@ use Rattle.input_reading.specs.declared.input.reading.Input.{Input}
 use Rattle.input_reading.specs.declared.input.trace.Trace.{Trace}
 use Rattle.input_reading.specs.FirstJournal.{status_journal}
 use Rattle.input_reading.specs.Grammar.LinesSaid.{AreResultsRefused, AsLinesSay, IsRunRefused, ResultsAreSaid, RunIsSaid}
-use Rattle.input_reading.specs.Grammar.TextsSaid.{ConfigurationIsSaid, InputIsSaid, IsHeadRefused, IsHeadSaid, IsInputRefused, IsStartRefused, IsTraceLineRefused, StartIsSaid, TraceIsSaid, cluster_refused, input_head_refused, leaves_refused, result_refused, run_line_refused, section_refused, statement_refused, status_refused, trace_head_refused, words_refused}
-use Rattle.input_reading.specs.Reading.{configuration_lines, configuration_of, following_lines, head_of, input_of, line_behind, nothing_yet, reading_steps, start_of, status_lines, with_results}
+use Rattle.input_reading.specs.Grammar.TextsSaid.{ConfigurationIsSaid, InputIsSaid, IsHeadRefused, IsHeadSaid, IsInputRefused, IsLoneHeadRefused, IsTraceLineRefused, LoneHeadIsSaid, TraceIsSaid, cluster_refused, input_head_refused, leaves_refused, result_refused, run_line_refused, section_refused, statement_refused, status_refused, trace_head_refused, words_refused}
+use Rattle.input_reading.specs.Reading.{configuration_lines, configuration_of, following_lines, head_of, input_of, line_behind, nothing_yet, reading_steps, lone_head_of, status_lines, with_results}
 use Rattle.input_reading.specs.Results.{results_of}
 use Rattle.input_reading.specs.RunReading.{read_run_lines}
 use Rattle.input_reading.specs.Sections.{sections_with_trace}
@@ -188,22 +188,22 @@ module _ (text : List ℕ) where
   input-given given h = as-said (λ (input : Input). input) (InputIsSaid text) (IsInputRefused text) (input_of text) given input-said input-refused h
 
   -- a head that stands alone
-  pub start-said : (head : Head) → start_of text ≡ Ok head → StartIsSaid text head
-  unfolding start_of
+  pub start-said : (head : Head) → lone_head_of text ≡ Ok head → LoneHeadIsSaid text head
+  unfolding lone_head_of
   start-said head e =
       let r = read-on sections_of text (λ all. nothing_yet) head e in
       let same : r.head ≡ head = (let f = r.goes_on in cc) in
       subst (IsHeadSaid sections_of (λ head lines. Unit {0}) text) same (r.said (λ head lines. Unit {0}) tt)
 
-  pub start-refused : (number : ℕ) (why : InputCause) → start_of text ≡ Err (At number why) → IsStartRefused text number why
-  unfolding start_of
+  pub start-refused : (number : ℕ) (why : InputCause) → lone_head_of text ≡ Err (At number why) → IsLoneHeadRefused text number why
+  unfolding lone_head_of
   start-refused number why e =
-      fault-on sections_of text (λ all. nothing_yet) (IsStartRefused text number) number why (λ w refused. refused)
+      fault-on sections_of text (λ all. nothing_yet) (IsLoneHeadRefused text number) number why (λ w refused. refused)
       (λ head all behind said e. absurd (cc)) e
 
-  pub start-given : (given : Result Head (Fault InputCause)) → Gives (λ (head : Head). head) given (start_of text)
-      → AsLinesSay (StartIsSaid text) (IsStartRefused text) given
-  start-given given h = as-said (λ (head : Head). head) (StartIsSaid text) (IsStartRefused text) (start_of text) given start-said start-refused h
+  pub start-given : (given : Result Head (Fault InputCause)) → Gives (λ (head : Head). head) given (lone_head_of text)
+      → AsLinesSay (LoneHeadIsSaid text) (IsLoneHeadRefused text) given
+  start-given given h = as-said (λ (head : Head). head) (LoneHeadIsSaid text) (IsLoneHeadRefused text) (lone_head_of text) given start-said start-refused h
 
   -- a text with a trace
   abbrev Tells : Trace → Head → List Line → Type 0

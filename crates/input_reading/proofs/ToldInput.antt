@@ -15,7 +15,8 @@ use Rattle.input_reading.specs.declared.input.cause.InputCause.TheVariants as ca
 use Rattle.input_reading.specs.declared.input.reading.Head.{Head}
 use Rattle.input_reading.specs.declared.input.reading.Input.{Input}
 use Rattle.input_reading.specs.declared.results.result_lines.ResultLine.{ResultLine}
-use Rattle.input_reading.specs.Reading.{head_of, input_with, status_and_results, with_results}
+use Rattle.input_reading.specs.Reading.{head_of, with_results}
+use Rattle.input_reading.specs.Inner.Reading.{input_with, status_and_results}
 
 module _ (crm : Crm) (cluster : Cluster) (status results : List Line) where
   abbrev headed : Journal → Result Head (Fault InputCause)

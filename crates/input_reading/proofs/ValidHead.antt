@@ -14,7 +14,7 @@ use Rattle.input_reading.specs.declared.input.cause.InputCause.{InputCause}
 use Rattle.input_reading.specs.declared.input.cause.InputCause.TheVariants as cause
 use Rattle.input_reading.specs.declared.input.reading.Configuration.{Configuration}
 use Rattle.input_reading.specs.declared.input.reading.Head.{Head}
-use Rattle.input_reading.specs.Reading.{configuration_of, head_of, start_of, status_lines}
+use Rattle.input_reading.specs.Reading.{configuration_of, head_of, lone_head_of, status_lines}
 use Rattle.input_reading.proofs.ValidInput.{head_made, passed, passed_on, read_from}
 
 -- the steps of a head that is read
@@ -25,8 +25,8 @@ record IsBegun (text : List ℕ) (head : Head) : Type 0 where
   resolves : resolution_of found.leaves found.crm.statements ≡ Ok cluster
   made : head_of found.crm cluster (status_lines found.marks found.lines) ≡ Ok head
 
-begun : (text : List ℕ) (head : Head) → start_of text ≡ Ok head → IsBegun text head
-unfolding start_of
+begun : (text : List ℕ) (head : Head) → lone_head_of text ≡ Ok head → IsBegun text head
+unfolding lone_head_of
 begun text head r =
     let found = passed_on (configuration_of sections_of text) _ head r in
     let cluster = passed cause.Cluster (resolution_of found.gave.leaves found.gave.crm.statements) _ head found.goes_on in
@@ -35,7 +35,7 @@ begun text head r =
     let same : read.gave ≡ head = cc in
     record { found = found.gave; cluster = cluster.gave; configuration = found.is; resolves = cluster.is; made = rw same at read.is }
 
-module _ (text : List ℕ) (head : Head) (r : start_of text ≡ Ok head) where
+module _ (text : List ℕ) (head : Head) (r : lone_head_of text ≡ Ok head) where
   steps : IsBegun text head
   steps = begun text head r
 
@@ -54,10 +54,10 @@ module _ (text : List ℕ) (head : Head) (r : start_of text ≡ Ok head) where
 
 -- what a call that read a head returned
 module _ (text : List ℕ) (given : Result Head (Fault InputCause)) where
-  pub valid_given : Gives (λ (head : Head). head) given (start_of text) → IfOk given (λ head. IsValid head.cluster)
-  valid_given h = by_result (λ (r : Result Head (Fault InputCause)). Gives (λ (head : Head). head) r (start_of text) → IfOk r (λ head. IsValid head.cluster))
+  pub valid_given : Gives (λ (head : Head). head) given (lone_head_of text) → IfOk given (λ head. IsValid head.cluster)
+  valid_given h = by_result (λ (r : Result Head (Fault InputCause)). Gives (λ (head : Head). head) r (lone_head_of text) → IfOk r (λ head. IsValid head.cluster))
       (λ head read. cluster_valid text head read) (λ fault read. tt) given h
 
-  pub at_rest_given : Gives (λ (head : Head). head) given (start_of text) → IfOk given (λ head. IsAtRest head.journal.events)
-  at_rest_given h = by_result (λ (r : Result Head (Fault InputCause)). Gives (λ (head : Head). head) r (start_of text) → IfOk r (λ head. IsAtRest head.journal.events))
+  pub at_rest_given : Gives (λ (head : Head). head) given (lone_head_of text) → IfOk given (λ head. IsAtRest head.journal.events)
+  at_rest_given h = by_result (λ (r : Result Head (Fault InputCause)). Gives (λ (head : Head). head) r (lone_head_of text) → IfOk r (λ head. IsAtRest head.journal.events))
       (λ head read. journal_at_rest text head read) (λ fault read. tt) given h

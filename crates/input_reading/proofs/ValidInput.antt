@@ -28,7 +28,8 @@ use Rattle.input_reading.specs.declared.input.cause.InputCause.TheVariants as ca
 use Rattle.input_reading.specs.declared.input.reading.Configuration.{Configuration}
 use Rattle.input_reading.specs.declared.input.reading.Head.{Head}
 use Rattle.input_reading.specs.declared.input.reading.Input.{Input}
-use Rattle.input_reading.specs.Reading.{AreStated, ReadsInput, configuration_lines, configuration_of, following_lines, head_of, input_of, status_lines, with_cluster, with_results}
+use Rattle.input_reading.specs.Reading.{ReadsInput, configuration_lines, configuration_of, following_lines, head_of, input_of, status_lines, behind_cluster, with_results}
+use Rattle.input_reading.specs.Inner.Reading.{AreStated}
 
 -- a step that was passed: what it gave, and what the steps behind it give
 pub record IsPassed {A B F : Type 0} (step : Result A F) (next : A → Result B (Fault InputCause)) (end : B) : Type 0 where
@@ -101,7 +102,7 @@ few_read head lines input e =
     let made : input ≡ record { head = head; results = answers.gave } = cc in
     rw made (few_results head.cluster (moment_of head.journal.events) lines answers.gave answers.is)
 
-made_of : (found : Configuration) (cluster : Cluster) (input : Input) → with_cluster with_results found cluster ≡ Ok input → IsMade cluster input
+made_of : (found : Configuration) (cluster : Cluster) (input : Input) → behind_cluster with_results found cluster ≡ Ok input → IsMade cluster input
 made_of found cluster input e =
     let lines = status_lines found.marks found.lines in
     let head = passed_on (head_of found.crm cluster lines) (λ head. with_results head (following_lines found.marks found.lines)) input e in
@@ -120,7 +121,7 @@ pub record IsStepped (text : List ℕ) (input : Input) : Type 0 where
   pub cluster : Cluster
   pub configuration : configuration_of sections_of text ≡ Ok found
   pub resolves : resolution_of found.leaves found.crm.statements ≡ Ok cluster
-  pub made : with_cluster with_results found cluster ≡ Ok input
+  pub made : behind_cluster with_results found cluster ≡ Ok input
 
 pub stepped : (text : List ℕ) (input : Input) → ReadsInput text input → IsStepped text input
 unfolding input_of

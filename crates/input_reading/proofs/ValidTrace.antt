@@ -11,7 +11,7 @@ use Rattle.faults.specs.declared.fault.Fault.{Fault}
 use Rattle.faults.specs.Reading.{Gives}
 use Rattle.lemmas.proofs.Results.{by_result}
 use Rattle.input_reading.specs.RunReading.{read_run_lines}
-use Rattle.input_reading.specs.Written.{AreNamed}
+use Rattle.input_reading.specs.PrintedLines.{AreNamed}
 use Rattle.input_reading.proofs.NamedLines.{read_named}
 use Rattle.input_reading.specs.declared.input.cause.InputCause.{InputCause}
 use Rattle.input_reading.specs.declared.input.cause.InputCause.TheVariants as cause

@@ -14,7 +14,7 @@ use Rattle.cluster_types.specs.declared.run.RunLine.{RunLine}
 use Rattle.cluster_types.specs.declared.run.RunLine.TheVariants as line
 use Rattle.cluster_types.specs.Fields.{leaf_name}
 use Rattle.cluster_types.specs.Texts.{node_name, pin_text, run_line, target_text}
-use Rattle.input_reading.specs.Places.{WordsOfLine}
+use Rattle.input_reading.specs.WordPlaces.{WordsOfLine}
 
 -- words parted by spaces
 abbrev pub joined : WordsOfLine → List ℕ

@@ -1,3 +1,6 @@
 -- What no public clause rests on: what the code of this crate keeps and counts on the way, for its proofs alone.
+pub mod FirstJournal
+pub mod Reading
 pub mod Repeats
-pub mod Said
+pub mod LentLines
+pub mod Sections

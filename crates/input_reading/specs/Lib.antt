@@ -6,11 +6,11 @@ pub mod Sections
 pub mod Traces
 pub mod LineWords
 pub mod RunReading
-pub mod Written
+pub mod PrintedLines
 pub mod Numbers
 pub mod OpWords
 pub use Rattle.names.specs.Names
-pub mod Places
+pub mod WordPlaces
 pub mod Recovery
 pub mod Results
 pub mod Status

@@ -14,7 +14,7 @@ use Rattle.faults.specs.Reading.{◌>>=◌}
 use Rattle.input_reading.specs.declared.words.word_cause.WordCause.{WordCause}
 use Rattle.input_reading.specs.declared.words.word_cause.WordCause.TheVariants.{BadValue}
 use Rattle.input_reading.specs.OpWords.{operation_named}
-use Rattle.input_reading.specs.Places.{WordsOfLine, word_at}
+use Rattle.input_reading.specs.WordPlaces.{WordsOfLine, word_at}
 use Rattle.input_reading.specs.declared.run.words.ActionWord.{ActionWord}
 use Rattle.input_reading.specs.declared.run.words.ActionWord.TheVariants as action
 use Rattle.input_reading.specs.declared.run.words.LineWord.{LineWord}

@@ -15,7 +15,6 @@ use Rattle.crm_parse.specs.Statements.{statements_of}
 use Rattle.cluster_model.specs.Expansion.{expansion_of}
 use Rattle.cluster_model.specs.Resolution.{resolution_of}
 use Rattle.cluster_types.specs.declared.cluster.Cluster.{Cluster}
-use Rattle.cluster_types.specs.declared.journal.Journal.{Journal}
 use Rattle.cluster_types.specs.Journals.{moment_of}
 use Rattle.input_reading.specs.FirstJournal.{status_journal}
 use Rattle.input_reading.specs.Results.{results_of}
@@ -24,7 +23,6 @@ use Rattle.input_reading.specs.declared.input.cause.InputCause.TheVariants as ca
 use Rattle.input_reading.specs.declared.input.reading.Configuration.{Configuration}
 use Rattle.input_reading.specs.declared.input.reading.Head.{Head}
 use Rattle.input_reading.specs.declared.input.reading.Input.{Input}
-use Rattle.input_reading.specs.declared.results.result_lines.ResultLine.{ResultLine}
 
 -- the most bytes that an input may have: 16 MiB. And the most of a logical line of it, without line ends (rules of this project)
 abbrev pub most_bytes : ℕ
@@ -59,11 +57,6 @@ configuration_of sections text = do
   leaves ← faulting cause.Leaves (expansion_of crm.statements)
   Ok (record { lines = lines; marks = marks; crm = crm; leaves = leaves })
 
--- the statements are those of some lines
-pub record AreStated (crm : Crm) : Type 0 where
-  pub lines : List Line
-  pub are : statements_of lines ≡ Ok crm
-
 -- the head of an input: its configuration, which says this cluster, and the journal that these lines of the status tell
 unfoldable pub head_of : Crm → Cluster → List Line → Result Head (Fault InputCause)
 head_of crm cluster lines = do
@@ -73,8 +66,8 @@ head_of crm cluster lines = do
 -- the last steps, where this says how what follows the status is read, by the head before it
 module _ {X : Type 0} (read_on : Head → List Line → Result X (Fault InputCause)) where
   -- behind the cluster come the status and what follows it
-  abbrev pub with_cluster : Configuration → Cluster → Result X (Fault InputCause)
-  with_cluster found cluster =
+  abbrev pub behind_cluster : Configuration → Cluster → Result X (Fault InputCause)
+  behind_cluster found cluster =
       head_of found.crm cluster (status_lines found.marks found.lines) >>= (λ head. read_on head (following_lines found.marks found.lines))
 
 -- the steps of reading a text that has these sections, where what follows the status is read so, from all lines and the head. They are the words of all
@@ -84,7 +77,7 @@ abbrev pub reading_steps : {X : Type 0} (sections : List Line → Result Section
 reading_steps sections read_on text = do
   found ← configuration_of sections text
   cluster ← faulting cause.Cluster (resolution_of found.leaves found.crm.statements)
-  with_cluster (read_on found.lines) found cluster
+  behind_cluster (read_on found.lines) found cluster
 
 -- what follows isn't read
 abbrev pub nothing_yet : Head → List Line → Result Head (Fault InputCause)
@@ -96,24 +89,13 @@ with_results head lines = do
   answers ← faulting cause.Results (results_of head.cluster (moment_of head.journal.events) lines)
   Ok (record { head = head; results = answers })
 
--- the input whose configuration says this cluster, of these lines of the status and these result lines
-abbrev pub input_with : Crm → Cluster → List Line → List Line → Result Input (Fault InputCause)
-input_with crm cluster status results = head_of crm cluster status >>= (λ head. with_results head results)
-
--- the journal that these lines of the status tell of a cluster, and behind it the answers of these result lines
-unfoldable pub status_and_results : Cluster → List Line → List Line → Result (Journal × List ResultLine) (Fault InputCause)
-status_and_results cluster status results = do
-  journal ← faulting cause.Status (status_journal cluster status)
-  answers ← faulting cause.Results (results_of cluster (moment_of journal.events) results)
-  Ok (journal, answers)
-
 -- what is read of a whole text, or its fault: that of the first step that fails
 unfoldable pub input_of : List ℕ → Result Input (Fault InputCause)
 input_of text = reading_steps sections_of (λ all. with_results) text
 
 -- what is read of a head that stands alone, or its fault: the same steps without the last
-unfoldable pub start_of : List ℕ → Result Head (Fault InputCause)
-start_of text = reading_steps sections_of (λ all. nothing_yet) text
+unfoldable pub lone_head_of : List ℕ → Result Head (Fault InputCause)
+lone_head_of text = reading_steps sections_of (λ all. nothing_yet) text
 
 -- the text is read, and says this
 abbrev pub ReadsInput : List ℕ → Input → Type 0
@@ -123,10 +105,12 @@ ReadsInput text input = input_of text ≡ Ok input
 abbrev pub IsTextRefused : List ℕ → ℕ → InputCause → Type 0
 IsTextRefused text line why = input_of text ≡ Err (At line why)
 
+-- the text is read
 pub record IsReadable (text : List ℕ) : Type 0 where
   pub whole : Input
   pub reads : ReadsInput text whole
 
+-- the text isn't read: one of its lines is at fault
 pub record IsFaultyText (text : List ℕ) : Type 0 where
   pub line : ℕ
   pub why : InputCause

@@ -5,7 +5,7 @@ use Rattle.crm_lex.specs.declared.line.Line.{Line}
 use Rattle.cluster_types.specs.declared.cluster.Cluster.{Cluster}
 use Rattle.cluster_types.specs.declared.journal.Answer.{Answer}
 use Rattle.cluster_types.specs.declared.journal.Answer.TheVariants as answer
-use Rattle.cluster_types.specs.Answering.{seconds_in}
+use Rattle.cluster_types.specs.AnswersThatApply.{seconds_in}
 use Rattle.input_reading.specs.declared.results.answers.ResultWord.{ResultWord}
 use Rattle.input_reading.specs.declared.results.answers.ResultWord.TheVariants.{End, Timeout, Lost, Up, Quorum, Wait, Report}
 use Rattle.faults.specs.declared.fault.Fault.{Fault}
@@ -13,7 +13,7 @@ use Rattle.faults.specs.declared.fault.Fault.TheVariants.{At}
 use Rattle.faults.specs.Reading.{◌>>=◌, faulting, on_line}
 use Rattle.input_reading.specs.declared.words.word_cause.WordCause.{WordCause}
 use Rattle.input_reading.specs.declared.words.word_cause.WordCause.TheVariants.{BadValue, UnknownStatement}
-use Rattle.input_reading.specs.Places.{WordsOfLine, code_at, line_end_at, leaf_at, node_at, number_at, seconds_at, word_at, yes_at}
+use Rattle.input_reading.specs.WordPlaces.{WordsOfLine, code_at, line_end_at, leaf_at, node_at, number_at, seconds_at, word_at, yes_at}
 use Rattle.input_reading.specs.declared.history_fault.ResultCause.{ResultCause}
 use Rattle.input_reading.specs.declared.history_fault.ResultCause.TheVariants.{Form, TooManyResults}
 use Rattle.input_reading.specs.declared.results.result_lines.ResultLine.{ResultLine}

@@ -10,13 +10,13 @@ use Rattle.cluster_types.specs.declared.leaf.Role.TheVariants.{Started}
 use Rattle.cluster_types.specs.declared.placement.NoReason.TheVariants.{Held}
 use Rattle.cluster_types.specs.declared.run.RunLine.{RunLine}
 use Rattle.cluster_types.specs.declared.run.RunLine.TheVariants as line
-use Rattle.cluster_types.specs.Answering.{monitor_action}
+use Rattle.cluster_types.specs.AnswersThatApply.{monitor_action}
 use Rattle.crm_lex.specs.declared.line.Line.{Line}
 use Rattle.faults.specs.declared.fault.Fault.{Fault}
 use Rattle.faults.specs.Reading.{◌>>=◌, on_line}
 use Rattle.input_reading.specs.declared.words.word_cause.WordCause.{WordCause}
 use Rattle.input_reading.specs.declared.words.word_cause.WordCause.TheVariants.{BadValue}
-use Rattle.input_reading.specs.Places.{WordsOfLine, line_end_at, leaf_at, node_at, number_at, word_at}
+use Rattle.input_reading.specs.WordPlaces.{WordsOfLine, line_end_at, leaf_at, node_at, number_at, word_at}
 use Rattle.input_reading.specs.Results.{answer_of}
 use Rattle.input_reading.specs.declared.run.text.RunTextLine.{RunTextLine}
 use Rattle.input_reading.specs.declared.run.words.ActionWord.{ActionWord}

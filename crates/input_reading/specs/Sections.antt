@@ -4,18 +4,11 @@ use Rattle.crm_lex.specs.declared.line.Line.{Line}
 use Rattle.crm_parse.specs.declared.fault.ParseCause.{ParseCause}
 use Rattle.crm_parse.specs.declared.marks.AuditMarks.{AuditMarks}
 use Rattle.crm_parse.specs.declared.marks.SectionMarks.{SectionMarks}
-use Rattle.crm_parse.specs.Marks.{audit_sections_of, sections_of}
+use Rattle.crm_parse.specs.Marks.{audit_sections_of}
 use Rattle.faults.specs.declared.fault.Fault.{Fault}
 use Rattle.faults.specs.Reading.{◌>>=◌}
-use Rattle.input_reading.specs.declared.input.sections.LastSection.{LastSection}
-use Rattle.input_reading.specs.declared.input.sections.LastSection.TheVariants.{Results, Trace}
 
 -- the sections of a text with a trace, where the trace stands in the place of the results
 abbrev pub sections_with_trace : List Line → Result SectionMarks (Fault ParseCause)
 sections_with_trace lines =
     audit_sections_of lines >>= (λ (marks : AuditMarks). Ok (record { status_at = marks.status_at; results_at = marks.trace_at; end = marks.end }))
-
--- the sections of a text, by the last one that it may have
-abbrev pub sections_by : LastSection → List Line → Result SectionMarks (Fault ParseCause)
-sections_by Results = sections_of
-sections_by Trace = sections_with_trace

@@ -13,20 +13,20 @@ use Rattle.cluster_types.specs.declared.leaf.Op.{Op}
 use Rattle.cluster_types.specs.declared.leaf.Op.TheVariants.{Promote, Demote, Monitor}
 use Rattle.cluster_types.specs.declared.leaf.Role.TheVariants as role
 use Rattle.cluster_types.specs.Fields.{is_promotable, monitors}
-use Rattle.cluster_types.specs.Answering.{role_of_interval}
+use Rattle.cluster_types.specs.AnswersThatApply.{role_of_interval}
 use Rattle.faults.specs.Digits.{number_up_to}
 use Rattle.faults.specs.Reading.{◌>>=◌}
 use Rattle.input_reading.specs.declared.words.word_cause.WordCause.{WordCause}
 use Rattle.input_reading.specs.declared.words.word_cause.WordCause.TheVariants.{BadValue, UnknownStatement}
 use Rattle.input_reading.specs.Numbers.{read_exit_code, read_interval}
 use Rattle.input_reading.specs.OpWords.{operation_named}
-use Rattle.input_reading.specs.Places.{WordsOfLine, line_end_at, leaf_at, node_at, seconds_at, word_at, yes_at}
+use Rattle.input_reading.specs.WordPlaces.{WordsOfLine, line_end_at, leaf_at, node_at, seconds_at, word_at, yes_at}
 use Rattle.input_reading.specs.declared.status.status_lines.StatusWord.{StatusWord}
 use Rattle.input_reading.specs.declared.status.status_lines.StatusWord.TheVariants as first
 use Rattle.input_reading.specs.declared.status.line_meaning.NodeWord.{NodeWord}
 use Rattle.input_reading.specs.declared.status.line_meaning.NodeWord.TheVariants.{Online, Offline, Unclean}
-use Rattle.input_reading.specs.declared.status.line_meaning.Told.{Told}
-use Rattle.input_reading.specs.declared.status.line_meaning.Told.TheVariants.{Now, Quorum, Node, Past, Promoting}
+use Rattle.input_reading.specs.declared.status.line_meaning.Fact.{Fact}
+use Rattle.input_reading.specs.declared.status.line_meaning.Fact.TheVariants.{Now, Quorum, Node, Past, Promoting}
 
 -- what a first word begins
 unfoldable pub status_word : List ℕ → Result StatusWord WordCause
@@ -40,14 +40,14 @@ status_word word =
     else Err UnknownStatement
 
 -- `now SECONDS`
-unfoldable pub now_line : WordsOfLine → Result Told WordCause
+unfoldable pub now_line : WordsOfLine → Result Fact WordCause
 now_line words = do
   seconds ← seconds_at 1 words
   end ← line_end_at 2 words
   Ok (Now seconds)
 
 -- `quorum yes` or `quorum no`
-unfoldable pub quorum_line : WordsOfLine → Result Told WordCause
+unfoldable pub quorum_line : WordsOfLine → Result Fact WordCause
 quorum_line words = do
   quorate ← yes_at 1 words
   end ← line_end_at 2 words
@@ -66,7 +66,7 @@ state_at place words = do
   ok_or (node_word word) BadValue
 
 -- `node NODE online`, `offline` or `unclean`
-unfoldable pub node_line : Cluster → WordsOfLine → Result Told WordCause
+unfoldable pub node_line : Cluster → WordsOfLine → Result Fact WordCause
 node_line c words = do
   node ← node_at c 1 words
   state ← state_at 2 words
@@ -114,7 +114,7 @@ history_action c Monitor r n interval = if interval == 0 then Probe r n else Ope
 history_action c op r n interval = Operation op r n 0 role.Started
 
 -- `op NODE LEAF OP MS CODE SECONDS`: an operation that ended. It has the number 0
-unfoldable pub op_line : Cluster → WordsOfLine → Result Told WordCause
+unfoldable pub op_line : Cluster → WordsOfLine → Result Fact WordCause
 op_line c words = do
   node ← node_at c 1 words
   leaf ← leaf_at c 2 words
@@ -126,7 +126,7 @@ op_line c words = do
   Ok (Past (Ended 0 (history_action c op leaf node interval) outcome moment))
 
 -- `cleanup NODE LEAF`
-unfoldable pub cleanup_line : Cluster → WordsOfLine → Result Told WordCause
+unfoldable pub cleanup_line : Cluster → WordsOfLine → Result Fact WordCause
 cleanup_line c words = do
   node ← node_at c 1 words
   leaf ← leaf_at c 2 words
@@ -149,7 +149,7 @@ score_at place words = do
   ok_or (read_score word) BadValue
 
 -- `promotion NODE LEAF SCORE`
-unfoldable pub promotion_line : Cluster → WordsOfLine → Result Told WordCause
+unfoldable pub promotion_line : Cluster → WordsOfLine → Result Fact WordCause
 promotion_line c words = do
   node ← node_at c 1 words
   leaf ← promotable_at c 2 words
@@ -157,7 +157,7 @@ promotion_line c words = do
   end ← line_end_at 4 words
   Ok (Promoting (record { leaf = leaf; node = node; score = score }))
 
-abbrev pub told_as : Cluster → StatusWord → WordsOfLine → Result Told WordCause
+abbrev pub told_as : Cluster → StatusWord → WordsOfLine → Result Fact WordCause
 told_as c first.Now words = now_line words
 told_as c first.Quorum words = quorum_line words
 told_as c first.Node words = node_line c words
@@ -166,7 +166,7 @@ told_as c first.Cleanup words = cleanup_line c words
 told_as c first.Promotion words = promotion_line c words
 
 -- what the words of a line tell
-unfoldable pub told_of : Cluster → WordsOfLine → Result Told WordCause
+unfoldable pub told_of : Cluster → WordsOfLine → Result Fact WordCause
 told_of c words = do
   word ← word_at 0 words
   form ← status_word word

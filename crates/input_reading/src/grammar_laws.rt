@@ -20,7 +20,7 @@ ghost use Rattle.input_reading.specs.Status.{told_of};
 ghost use Rattle.input_reading.specs.Grammar.ResultForms.{ResultSays};
 ghost use Rattle.input_reading.specs.Grammar.RunForms.{RunSays};
 ghost use Rattle.input_reading.specs.Grammar.StatusForms.{StatusSays};
-ghost use Rattle.input_reading.specs.declared.status.line_meaning.Told.{Told as ToldOf};
+ghost use Rattle.input_reading.specs.declared.status.line_meaning.Fact.{Fact as FactOf};
 
 /// The words of a result line are read as an answer, at a moment, just when they say it.
 pub fn result_lines_are_read_as_they_say()
@@ -62,19 +62,19 @@ pub fn run_lines_that_say_nothing_are_refused()
 
 /// The words of a line of a status are read as a fact just when they say it.
 pub fn status_lines_are_read_as_they_say()
-    ensures { (c : ClusterOf) (words : List (List ℕ)) (told : ToldOf) → (told_of c words ≡ Ok told) ↔ StatusSays c words told }
+    ensures { (c : ClusterOf) (words : List (List ℕ)) (told : FactOf) → (told_of c words ≡ Ok told) ↔ StatusSays c words told }
 {}
 
 /// The words of a line of a status say one fact and no other, so no two facts have the same words.
 pub fn a_status_line_says_one_fact()
-    ensures { (c : ClusterOf) (words : List (List ℕ)) (one other : ToldOf) → StatusSays c words one → StatusSays c words other → one ≡ other }
+    ensures { (c : ClusterOf) (words : List (List ℕ)) (one other : FactOf) → StatusSays c words one → StatusSays c words other → one ≡ other }
 {}
 
 /// A line of a status is refused just when its words say no fact.
 pub fn status_lines_that_say_nothing_are_refused()
-    ensures refused { (c : ClusterOf) (words : List (List ℕ)) → ((told : ToldOf) → StatusSays c words told → ⊥)
+    ensures refused { (c : ClusterOf) (words : List (List ℕ)) → ((told : FactOf) → StatusSays c words told → ⊥)
         → (cause : CauseOf) × (told_of c words ≡ Err cause) }
-    ensures nothing { (c : ClusterOf) (words : List (List ℕ)) (cause : CauseOf) (told : ToldOf)
+    ensures nothing { (c : ClusterOf) (words : List (List ℕ)) (cause : CauseOf) (told : FactOf)
         → told_of c words ≡ Err cause → StatusSays c words told → ⊥ }
 {}
 

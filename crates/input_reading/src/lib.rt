@@ -41,7 +41,7 @@ pub use history_fault::{ResultCause, ResultFault, StatusCause, StatusFault};
 pub use history_laws::first_journals_are_at_rest;
 pub use input::cause::InputCause;
 pub use input::fault::InputFault;
-pub use input::reading::{Head, Input, MOST_BYTES, read_input, read_start};
+pub use input::reading::{Head, Input, MOST_BYTES, read_input, read_lone_head};
 pub use input::trace::{Trace, read_trace};
 pub use laws::{
     answers_that_are_read_fit, one_reading, one_reading_of_a_trace, the_limit_is_told,
@@ -53,7 +53,7 @@ pub(crate) use results::answers::answer_of;
 pub use results::result_lines::{ResultLine, read_result, read_results};
 pub use run::run_reading::read_run;
 pub use run::text::{RunText, RunTextLine, TraceFault};
-pub use status::line_meaning::{NodeWord, Told};
+pub use status::line_meaning::{Fact, NodeWord};
 pub use status::whole::read_status;
 pub use words::by_place::Words;
 pub use words::number_words::code_of;

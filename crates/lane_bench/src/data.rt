@@ -1,6 +1,6 @@
 ghost use Rattle.std.specs.Prelude.{◌≡◌, ℕ, pos, ◌<◌, ◌≤◌, ◌+ℤ◌, true, length, IfOk};
 ghost use Rattle.score.specs.NodeSet.{has};
-ghost use Rattle.score.specs.Small.{IsSmallRow};
+ghost use Rattle.score.specs.Inner.SmallRows.{IsSmallRow};
 ghost use Rattle.score.specs.Total.{IsScore};
 
 use score::{NoMemory, NodeSet, Row, Score};

@@ -4,11 +4,11 @@ use Rattle.std.proofs.lemmas.Bool.{both_ways}
 use Rattle.cluster_io.specs.Streams.{Rose}
 use Rattle.cluster_types.specs.declared.journal.Answer.{Answer}
 use Rattle.cluster_types.specs.Sources.{Says, told, used_up, untold}
-use Rattle.graph_exec.specs.Saying.{GivesNext, IsOverBy}
+use Rattle.graph_exec.specs.SourceDuties.{GivesNext, IsOverBy}
 use Rattle.graph_exec.specs.declared.transition.outcomes.Next.{Next}
 use Rattle.graph_exec.specs.declared.transition.outcomes.Next.TheVariants as next
 use Rattle.input_reading.specs.declared.results.result_lines.ResultLine.{ResultLine}
-use Rattle.live_run.specs.Coming.{Coming, coming_of, no_more, result_first}
+use Rattle.live_run.specs.AnswersToCome.{Coming, coming_of, no_more, result_first}
 use Rattle.live_run.specs.Inner.ComingSteps.{Brings, told_coming}
 use Rattle.live_run.specs.Courses.{CourseAnswers, SourceState, answers_to_come, has_course_ended, in_course, is_reading, rest_of, coming_to, told_by, whole_of}
 use Rattle.live_run.specs.declared.line_result.Came.TheVariants as came
@@ -16,8 +16,8 @@ use Rattle.live_run.specs.declared.course.Course.{Course}
 use Rattle.live_run.specs.declared.course.Course.TheVariants as course
 use Rattle.live_run.specs.declared.line_stop.LineStop.{LineStop}
 use Rattle.live_run.specs.declared.line_stop.LineStop.TheVariants.{ReadFault, TooLarge, Refused}
-use Rattle.live_run.specs.FollowedLaws.{reading_is, reading_not_ended}
-use Rattle.live_run.specs.Saying.{is_last}
+use Rattle.live_run.specs.SourceFollowedLaws.{reading_is, reading_not_ended}
+use Rattle.live_run.specs.LineSays.{is_last}
 
 pub none_is : {X : Type 0} (o : Option X) → is_none o ≡ true → o ≡ None
 none_is None h = refl

@@ -8,7 +8,7 @@ use Rattle.cluster_types.specs.declared.run.RunLine.{RunLine}
 use Rattle.cluster_types.specs.Runs.{RunStanding as Place, RunsOn, plans, goes, completes, aborts, answers as answers_come, Runs, here, one_more}
 use Rattle.cluster_types.specs.Sources.{Says, told, used_up, untold}
 use Rattle.cluster_types.specs.Steps.{Transition, StepsOn, begins, takes, is_silent}
-use Rattle.live_run.specs.Followed.{last_line}
+use Rattle.live_run.specs.SourceFollowed.{last_line}
 use Rattle.input_reading.specs.declared.results.result_lines.ResultLine.{ResultLine}
 
 abbrev pub answer_in : ResultLine → Answer

@@ -12,9 +12,10 @@ use Rattle.cluster_types.specs.declared.cluster.Cluster.{Cluster}
 use Rattle.crm_lex.specs.RawLines.{physical_lines, raw_lines}
 use Rattle.crm_lex.specs.declared.fault.LexCause.TheVariants.{LineTooLong}
 use Rattle.crm_lex.proofs.PhysicalLines.{concat-lines, few_lines}
-use Rattle.live_run.specs.Coming.{AreReady, Coming, Lines, coming, coming_of, no_more, said_first}
+use Rattle.live_run.specs.AnswersToCome.{AreReady, Coming, Lines, coming, coming_of, no_more, said_first}
 use Rattle.live_run.specs.Inner.ComingSteps.{Brings, answers_in, came_first, is_stop_last, said_came, told_coming}
-use Rattle.live_run.specs.Saying.{SaidFits, line_says, place_behind_said, line_says_within, sized_says}
+use Rattle.live_run.specs.LineSays.{line_says, place_behind_said, line_says_within, sized_says}
+use Rattle.live_run.specs.Inner.LineFits.{SaidFits}
 use Rattle.live_run.specs.declared.line_result.Came.{Came}
 use Rattle.live_run.specs.declared.line_result.Came.TheVariants as came
 use Rattle.live_run.specs.declared.line_stop.LineCause.TheVariants as cause

@@ -8,7 +8,7 @@ use Rattle.cluster_io.specs.declared.line_step.LineStep.{LineStep}
 use Rattle.cluster_io.specs.declared.line_step.LineStep.TheVariants as step
 use Rattle.cluster_types.specs.declared.cluster.Cluster.{Cluster}
 use Rattle.cluster_types.specs.declared.journal.Answer.{Answer}
-use Rattle.cluster_types.specs.Answering.{seconds_in}
+use Rattle.cluster_types.specs.AnswersThatApply.{seconds_in}
 use Rattle.crm_lex.specs.LogicalLines.{faults, line_text}
 use Rattle.crm_lex.specs.RawLines.{physical_lines}
 use Rattle.crm_lex.specs.Reading.{faults_from, first_lex_fault, rows_from}
@@ -24,8 +24,8 @@ use Rattle.input_reading.specs.declared.results.result_lines.ResultLine.{ResultL
 use Rattle.input_reading.specs.declared.words.word_cause.WordCause.{WordCause}
 use Rattle.input_reading.specs.Results.{answer_of, moment_after, most_results, result_of, with_result, with_result_lines}
 use Rattle.input_reading.proofs.Faults.{StandsAt, first_group}
-use Rattle.live_run.specs.Coming.{Coming, coming, said_first}
-use Rattle.live_run.specs.Saying.{answer_says, place_behind_said, read_says, sized_says, words_say}
+use Rattle.live_run.specs.AnswersToCome.{Coming, coming, said_first}
+use Rattle.live_run.specs.LineSays.{answer_says, place_behind_said, read_says, sized_says, words_say}
 use Rattle.live_run.specs.declared.line_stop.LineCause.TheVariants as cause
 use Rattle.live_run.specs.declared.line_stop.LineStop.{LineStop}
 use Rattle.live_run.specs.declared.line_stop.LineStop.TheVariants as stop
@@ -33,7 +33,7 @@ use Rattle.live_run.specs.declared.place.Place.{Place}
 use Rattle.live_run.specs.declared.line_meaning.Said.{Said}
 use Rattle.live_run.specs.declared.line_meaning.Said.TheVariants as said
 use Rattle.live_run.proofs.HeadRead.{SaysSize, fault_behind, line_read, size_says}
-use Rattle.live_run.specs.Followed.{bytes_of}
+use Rattle.live_run.specs.SourceFollowed.{bytes_of}
 use Rattle.live_run.proofs.LinesJoined.{both_none, none_first}
 
 -- some lines lie within the limit and have no fault, and are read as these results behind others

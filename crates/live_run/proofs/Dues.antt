@@ -11,7 +11,7 @@ use Rattle.cluster_types.specs.declared.run.RunLine.TheVariants as line
 use Rattle.cluster_types.specs.Runs.{RunStanding, due, RunsOn, plans, goes, completes, aborts, answers, Runs, IsAsking, IsCutRun, IsRunSoFar}
 use Rattle.cluster_types.specs.Sources.{Says}
 use Rattle.cluster_types.specs.Texts.{run_line}
-use Rattle.live_run.specs.Coming.{Coming}
+use Rattle.live_run.specs.AnswersToCome.{Coming}
 use Rattle.live_run.specs.Courses.{answers_to_come}
 use Rattle.live_run.specs.LineCauses.{line_refusal_text}
 use Rattle.live_run.specs.declared.line_stop.LineCause.{LineCause}
@@ -21,7 +21,7 @@ use Rattle.live_run.specs.Ends.{AsksForMore, EndGets, CutRunGives, WholeRunGives
 use Rattle.live_run.specs.declared.live_end.LiveEnd.{LiveEnd}
 use Rattle.live_run.specs.declared.live_end.LiveEnd.TheVariants as end
 use Rattle.input_reading.specs.declared.results.result_lines.ResultLine.{ResultLine}
-use Rattle.run_safety.specs.Followed.{IsFront}
+use Rattle.run_safety.specs.TwoRuns.{IsFront}
 use Rattle.run_safety.proofs.Beginnings.{begins_cut, begins_whole}
 use Rattle.run_safety.proofs.OneEnd.{before_stuck, cut_one, whole_one, whole_or_cut}
 use Rattle.run_safety.proofs.OneStep.{ended_waits}
@@ -93,20 +93,20 @@ module _ (c : Cluster) (journal : Journal) (coming : Coming) where
   begins_due at behind lines end.Done text runs g =
       let runs_true = subst (λ z. Runs c journal.promotions (is_none z) (due 1 journal.events) told lines at behind) g.run.all runs in
       subst (IsFront (run_lines_text c lines)) (sym g.printed)
-      (text_front c lines g.lines (begins_whole c journal.promotions true (plans_one c journal.promotions) journal.events told tt at behind lines runs_true g.run.left g.lines g.run.run).0)
+      (text_front c lines g.lines (begins_whole c journal.promotions true (plans_one c journal.promotions) journal.events told tt at behind lines runs_true g.run.journal_now g.lines g.run.run).0)
   begins_due at behind lines end.Unexpected text runs g =
       front_on (run_lines_text c lines) (run_lines_text c g.lines) (run_line c (line.Unexpected g.result.line)) text
       (text_front c lines g.lines
-      (begins_cut c journal.promotions (is_none coming.stop) (plans_one c journal.promotions) journal.events told tt at behind lines runs g.run.left g.result.answer
+      (begins_cut c journal.promotions (is_none coming.stop) (plans_one c journal.promotions) journal.events told tt at behind lines runs g.run.journal_now g.result.answer
       (Some (map answer_in g.run.behind)) g.lines g.run.run).0) g.printed
   begins_due at behind lines end.Refused text runs g =
       let runs_false = subst (λ z. Runs c journal.promotions (is_none z) (due 1 journal.events) told lines at behind) g.stop runs in
       front_on (run_lines_text c lines) (run_lines_text c g.lines) (line_refusal_text g.line g.cause) text
-      (text_front c lines g.lines (begins_so_far c journal.promotions journal.events (answers_to_come coming) at behind lines g.lines g.run.left runs_false g.run.run)) g.printed
+      (text_front c lines g.lines (begins_so_far c journal.promotions journal.events (answers_to_come coming) at behind lines g.lines g.run.journal_now runs_false g.run.run)) g.printed
   begins_due at behind lines end.TooLarge text runs g =
       let runs_false = subst (λ z. Runs c journal.promotions (is_none z) (due 1 journal.events) told lines at behind) g.stop runs in
       subst (IsFront (run_lines_text c lines)) (sym g.printed)
-      (text_front c lines g.lines (begins_so_far c journal.promotions journal.events (answers_to_come coming) at behind lines g.lines g.run.left runs_false g.run.run))
+      (text_front c lines g.lines (begins_so_far c journal.promotions journal.events (answers_to_come coming) at behind lines g.lines g.run.journal_now runs_false g.run.run))
   begins_due at behind lines end.ReadFault text runs g = absurd g
   begins_due at behind lines end.WriteFault text runs g = absurd g
   begins_due at behind lines end.NoMemory text runs g = absurd g
@@ -119,7 +119,7 @@ module _ (c : Cluster) (journal : Journal) (coming : Coming) where
 
   cut_texts : (text also : List ℕ) → EndGets c journal coming end.Unexpected text → EndGets c journal coming end.Unexpected also → text ≡ also
   cut_texts text also g h =
-      let one = cut_one c journal.promotions (is_none coming.stop) (plans_one c journal.promotions) journal.events told tt g.run.left h.run.left g.lines h.lines g.result.answer h.result.answer
+      let one = cut_one c journal.promotions (is_none coming.stop) (plans_one c journal.promotions) journal.events told tt g.run.journal_now h.run.journal_now g.lines h.lines g.result.answer h.result.answer
       (Some (map answer_in g.run.behind)) (Some (map answer_in h.run.behind)) g.run.run h.run.run in
       let behind : map answer_in g.run.behind ≡ map answer_in h.run.behind = some_one (map answer_in g.run.behind) (map answer_in h.run.behind) one.3 in
       let g_size = map_size g.run.behind in
@@ -134,18 +134,18 @@ module _ (c : Cluster) (journal : Journal) (coming : Coming) where
 
   more_one : (lines others : List RunLine) → AsksForMore c journal coming lines → AsksForMore c journal coming others → lines ≡ others
   more_one lines others a b =
-      (so_far_one c journal.promotions (plans_one c journal.promotions) journal.events told tt a.left b.left lines others a.run b.run).0
+      (so_far_one c journal.promotions (plans_one c journal.promotions) journal.events told tt a.journal_now b.journal_now lines others a.run b.run).0
 
   more_or_cut : {R : Type 0} (lines others : List RunLine) (given : List ResultLine) (result : ResultLine) (w : LineStop) → coming.stop ≡ Some w → AsksForMore c journal coming lines
       → CutRunGives c journal coming others given result → R
   more_or_cut lines others given result w stop a b =
-      so_far_or_cut c journal.promotions (plans_one c journal.promotions) journal.events told tt a.left b.left lines others result.answer (Some (map answer_in b.behind)) a.run
-      (subst (λ z. IsCutRun c journal.promotions (is_none z) journal.events told others b.left result.answer (Some (map answer_in b.behind))) stop b.run)
+      so_far_or_cut c journal.promotions (plans_one c journal.promotions) journal.events told tt a.journal_now b.journal_now lines others result.answer (Some (map answer_in b.behind)) a.run
+      (subst (λ z. IsCutRun c journal.promotions (is_none z) journal.events told others b.journal_now result.answer (Some (map answer_in b.behind))) stop b.run)
 
   whole_cut : {R : Type 0} (lines others : List RunLine) (given : List ResultLine) (result : ResultLine) → WholeRunGives c journal coming lines → CutRunGives c journal coming others given result → R
   whole_cut lines others given result a b =
-      whole_or_cut c journal.promotions true (plans_one c journal.promotions) journal.events told tt a.left b.left lines others result.answer (Some (map answer_in b.behind)) a.run
-      (subst (λ z. IsCutRun c journal.promotions (is_none z) journal.events told others b.left result.answer (Some (map answer_in b.behind))) a.all b.run)
+      whole_or_cut c journal.promotions true (plans_one c journal.promotions) journal.events told tt a.journal_now b.journal_now lines others result.answer (Some (map answer_in b.behind)) a.run
+      (subst (λ z. IsCutRun c journal.promotions (is_none z) journal.events told others b.journal_now result.answer (Some (map answer_in b.behind))) a.all b.run)
 
   same_refusal : (n m : ℕ) (a b : LineCause) → coming.stop ≡ Some (why.Refused n a) → coming.stop ≡ Some (why.Refused m b) → line_refusal_text n a ≡ line_refusal_text m b
   same_refusal n m a b e f =
@@ -153,7 +153,7 @@ module _ (c : Cluster) (journal : Journal) (coming : Coming) where
 
   pub one_end : (one other : LiveEnd) (text also : List ℕ) → EndGets c journal coming one text → EndGets c journal coming other also → AreOne one text other also
   one_end end.Done end.Done text also g h =
-      let same = whole_one c journal.promotions true (plans_one c journal.promotions) journal.events told tt g.run.left h.run.left g.lines h.lines g.run.run h.run.run in
+      let same = whole_one c journal.promotions true (plans_one c journal.promotions) journal.events told tt g.run.journal_now h.run.journal_now g.lines h.lines g.run.run h.run.run in
       (refl, g.printed ∙ (ap (run_lines_text c) same.0 ∙ sym h.printed))
   one_end end.Done end.Unexpected text also g h = whole_cut g.lines h.lines h.given h.result g.run h.run
   one_end end.Done end.Refused text also g h = none_some _ g.run.all h.stop

@@ -3,9 +3,10 @@ use Rattle.std.proofs.Common.{◌≡◌, ◌+◌, ◌<◌, ◌^◌, true, Result
 use Rattle.cluster_types.specs.declared.journal.Answer.{Answer}
 use Rattle.faults.specs.declared.fault.Fault.{Fault}
 use Rattle.faults.specs.declared.fault.Fault.TheVariants.{At, NoMemory}
-use Rattle.cluster_types.specs.Answering.{seconds_in}
+use Rattle.cluster_types.specs.AnswersThatApply.{seconds_in}
 use Rattle.input_reading.specs.declared.history_fault.ResultCause.{ResultCause}
-use Rattle.live_run.specs.Saying.{SaidFits, answer_says, is_last, refused_for}
+use Rattle.live_run.specs.LineSays.{answer_says, is_last, refused_for}
+use Rattle.live_run.specs.Inner.LineFits.{SaidFits}
 use Rattle.live_run.specs.declared.line_stop.LineCause.{LineCause}
 use Rattle.live_run.specs.declared.line_stop.LineCause.TheVariants as cause
 use Rattle.live_run.specs.declared.place.Place.{Place}

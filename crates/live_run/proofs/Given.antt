@@ -11,16 +11,16 @@ use Rattle.cluster_types.specs.declared.run.RunLine.{RunLine}
 use Rattle.cluster_types.specs.Journals.{moment_of}
 use Rattle.cluster_types.specs.Runs.{due, IsCutRun}
 use Rattle.crm_lex.specs.RawLines.{raw_lines}
-use Rattle.live_run.specs.Coming.{Coming, coming, no_more}
+use Rattle.live_run.specs.AnswersToCome.{Coming, coming, no_more}
 use Rattle.live_run.specs.Courses.{SourceState, answers_to_come, in_course, rest_of, starting, coming_to, told_by}
-use Rattle.live_run.specs.Followed.{SourceFollows, HasAnswered, RestsBehind, answers, last_line, results_first, said_by, stays}
+use Rattle.live_run.specs.SourceFollowed.{SourceFollows, HasAnswered, RestsBehind, answers, last_line, results_first, said_by, stays}
 use Rattle.live_run.specs.declared.course.Course.{Course}
 use Rattle.live_run.specs.declared.course.Course.TheVariants as course
 use Rattle.live_run.specs.Ends.{CutRunGives}
-use Rattle.live_run.specs.Reached.{AskedFor, AskedForAll, results_behind}
+use Rattle.live_run.specs.RunReached.{AskedFor, AskedForAll, results_behind}
 use Rattle.live_run.proofs.Behind.{answer_in, runs_back, says_next, last_one, line_of_last}
 use Rattle.input_reading.specs.declared.results.result_lines.ResultLine.{ResultLine}
-use Rattle.run_safety.specs.Followed.{IsFront}
+use Rattle.run_safety.specs.TwoRuns.{IsFront}
 
 module _ (c : Cluster) (journal : Journal) (reading : Reading) where
   abbrev start : SourceState
@@ -138,7 +138,7 @@ module _ (c : Cluster) (journal : Journal) (reading : Reading) where
           given = l.before;
           result = l.last;
           run = record {
-            left = journal_now;
+            journal_now = journal_now;
             behind = g.behind;
             parts = g.split ∙ (ap (λ (x : List ResultLine). x ++ g.behind) l.joined ∙ append_assoc l.before (l.last ∷ []) g.behind);
             run = subst (λ (x : Answer). IsCutRun c journal.promotions (is_none results.stop) journal.events (Some (answers_to_come results)) lines journal_now x (Some (map answer_in g.behind))) (sym l.is)

@@ -15,8 +15,8 @@ use Rattle.crm_lex.proofs.PhysicalLines.{concat-lines, few_lines}
 use Rattle.faults.specs.declared.fault.Fault.{Fault}
 use Rattle.faults.specs.declared.fault.Fault.TheVariants.{At, NoMemory}
 use Rattle.input_reading.specs.declared.input.cause.InputCause.TheVariants.{Words}
-use Rattle.live_run.specs.Followed.{bytes_of, count_lines}
-use Rattle.live_run.specs.Heads.{AllGoOnBehind, CanGoOn, HeadVerdict, KeepsBytes, LineOfHead, begins_results, ends_head, goes_on_behind, has_no_words, head_behind, head_verdict, line_by_size, line_by_words, line_of_head, passes_limit, progress, refused, taken, too_large, verdict_by}
+use Rattle.live_run.specs.SourceFollowed.{bytes_of, count_lines}
+use Rattle.live_run.specs.Heads.{AllGoOnBehind, CanGoOn, HeadFound, KeepsBytes, LineOfHead, begins_results, ends_head, goes_on_behind, isnt_cut, head_behind, head_found, line_by_size, line_by_words, line_of_head, passes_limit, so_far, refused, taken, too_large, found_by}
 use Rattle.live_run.specs.Inner.HeadSteps.{BringsHead, came_to, lacks_memory, WhileWell, stop_for}
 use Rattle.live_run.specs.declared.head.HeadStop.{HeadStop}
 use Rattle.live_run.specs.declared.head.HeadStop.TheVariants as stop
@@ -26,71 +26,71 @@ use Rattle.live_run.proofs.Cuts.{cut_of}
 -- what the words say that were read of a line
 pub words_said : (read : Result (List (List ℕ)) (Fault LexCause)) (words : Kept) (ends : Bool) (came : Option (Result (Unit {0}) HeadStop))
     → (done : Unit {0}) → without_words read ≡ Ok done → words ≡ kept_of read → ((all : List (List ℕ)) → words ≡ kept all → ends ≡ begins_results all)
-    → came ≡ (if ends then Some (Ok tt) else None) → (text : List ℕ) (reading : Reading) (others : HeadVerdict)
-    → came_to came text reading others ≡ verdict_by (line_by_words read) (taken text reading.next reading.room) others
+    → came ≡ (if ends then Some (Ok tt) else None) → (text : List ℕ) (reading : Reading) (others : HeadFound)
+    → came_to came text reading others ≡ found_by (line_by_words read) (taken text reading.next reading.room) others
 words_said (Ok all) words ends came done ok is begins by text reading others =
     ap (λ (k : Option (Result (Unit {0}) HeadStop)). came_to k text reading others) by ∙ split ends (begins all is)
   where
     split : (e : Bool) → e ≡ begins_results all → came_to (if e then Some (Ok tt) else None) text reading others
-        ≡ verdict_by (if begins_results all then ends_head else goes_on_behind) (taken text reading.next reading.room) others
-    split true h = ap (λ (t : Bool). verdict_by (if t then ends_head else goes_on_behind) (taken text reading.next reading.room) others) h
-    split false h = ap (λ (t : Bool). verdict_by (if t then ends_head else goes_on_behind) (taken text reading.next reading.room) others) h
+        ≡ found_by (if begins_results all then ends_head else goes_on_behind) (taken text reading.next reading.room) others
+    split true h = ap (λ (t : Bool). found_by (if t then ends_head else goes_on_behind) (taken text reading.next reading.room) others) h
+    split false h = ap (λ (t : Bool). found_by (if t then ends_head else goes_on_behind) (taken text reading.next reading.room) others) h
 words_said (Err fault) words ends came done ok is begins by text reading others = cc
 
-pub words_stop : (read : Result (List (List ℕ)) (Fault LexCause)) (fault : Fault LexCause) → without_words read ≡ Err fault → (text : List ℕ) (reading : Reading) (others : HeadVerdict)
-    → came_to (Some (Err (stop_for fault))) text reading others ≡ verdict_by (line_by_words read) (taken text reading.next reading.room) others
+pub words_stop : (read : Result (List (List ℕ)) (Fault LexCause)) (fault : Fault LexCause) → without_words read ≡ Err fault → (text : List ℕ) (reading : Reading) (others : HeadFound)
+    → came_to (Some (Err (stop_for fault))) text reading others ≡ found_by (line_by_words read) (taken text reading.next reading.room) others
 words_stop (Ok all) fault e text reading others = cc
 words_stop (Err (At line why)) fault e text reading others = cc
 words_stop (Err NoMemory) fault e text reading others = cc
 
 -- what a line says that is handed out
 pub line_is : (longest room n : ℕ) (raw : List ℕ) → line_answer room longest (physical_lines raw) ≡ Line
-    → line_of_head longest room n (physical_lines raw) ≡ line_by_words (reads_line n raw)
+    → line_of_head room longest n (physical_lines raw) ≡ line_by_words (reads_line n raw)
 line_is longest room n raw line =
     ap (λ s. line_by_size s n (concat (physical_lines raw))) line ∙ ap (λ (t : List ℕ). line_by_words (reads_line n t)) (concat-lines raw)
 
 -- and then others
 pub line_head : (longest : ℕ) (before : List ℕ) (room n : ℕ) (raw : List ℕ) (more : List (List (List ℕ))) → line_answer room longest (physical_lines raw) ≡ Line
-    → head_verdict longest before room n (physical_lines raw ∷ more)
-    ≡ verdict_by (line_by_words (reads_line n raw)) (taken (before ++ raw) (n + length (physical_lines raw)) (room - length raw))
-    (head_verdict longest (before ++ raw) (room - length raw) (n + length (physical_lines raw)) more)
+    → head_found longest before room n (physical_lines raw ∷ more)
+    ≡ found_by (line_by_words (reads_line n raw)) (taken (before ++ raw) (n + length (physical_lines raw)) (room - length raw))
+    (head_found longest (before ++ raw) (room - length raw) (n + length (physical_lines raw)) more)
 line_head longest before room n raw more line =
     let bytes = concat (physical_lines raw) in
     let lines = length (physical_lines raw) in
-    ap (λ (l : LineOfHead). verdict_by l (taken (before ++ bytes) (n + lines) (room - length bytes))
-    (head_verdict longest (before ++ bytes) (room - length bytes) (n + lines) more)) (line_is longest room n raw line)
-    ∙ ap (λ (t : List ℕ). verdict_by (line_by_words (reads_line n raw)) (taken (before ++ t) (n + lines) (room - length t))
-    (head_verdict longest (before ++ t) (room - length t) (n + lines) more)) (concat-lines raw)
+    ap (λ (l : LineOfHead). found_by l (taken (before ++ bytes) (n + lines) (room - length bytes))
+    (head_found longest (before ++ bytes) (room - length bytes) (n + lines) more)) (line_is longest room n raw line)
+    ∙ ap (λ (t : List ℕ). found_by (line_by_words (reads_line n raw)) (taken (before ++ t) (n + lines) (room - length t))
+    (head_found longest (before ++ t) (room - length t) (n + lines) more)) (concat-lines raw)
 
 module _ (text : List ℕ) (old new : Reading) (before : Option (List ℕ)) (left : List ℕ) (a : ReaderAnswered Line old new before (Some left)) where
   -- the line, and then others
-  pub line_then : (more : List (List (List ℕ))) → head_verdict old.longest text old.room old.next (physical_lines new.raw ∷ more)
-      ≡ verdict_by (line_by_words (reads_line old.next new.raw)) (taken (text ++ new.raw) new.next new.room) (head_verdict new.longest (text ++ new.raw) new.room new.next more)
+  pub line_then : (more : List (List (List ℕ))) → head_found old.longest text old.room old.next (physical_lines new.raw ∷ more)
+      ≡ found_by (line_by_words (reads_line old.next new.raw)) (taken (text ++ new.raw) new.next new.room) (head_found new.longest (text ++ new.raw) new.room new.next more)
   line_then more =
       line_head old.longest text old.room old.next new.raw more (handed_answer old new before (Some left) a left a.at_end)
       ∙ rw (longest_is old new before (Some left) a, room_is old new before (Some left) a, next_is old new before (Some left) a) refl
 
   line_whole : head_behind text old (a.bytes ++ left)
-      ≡ verdict_by (line_by_words (reads_line old.next new.raw)) (taken (text ++ new.raw) new.next new.room) (head_behind (text ++ new.raw) new left)
+      ≡ found_by (line_by_words (reads_line old.next new.raw)) (taken (text ++ new.raw) new.next new.room) (head_behind (text ++ new.raw) new left)
   line_whole =
-      ap (λ (t : List ℕ). head_verdict old.longest text old.room old.next (raw_lines t)) (sym (append_assoc old.held a.bytes left))
-      ∙ ap (head_verdict old.longest text old.room old.next) (handed_cut old new before (Some left) a left a.at_end).lines
+      ap (λ (t : List ℕ). head_found old.longest text old.room old.next (raw_lines t)) (sym (append_assoc old.held a.bytes left))
+      ∙ ap (head_found old.longest text old.room old.next) (handed_cut old new before (Some left) a left a.at_end).lines
       ∙ line_then (raw_lines (new.held ++ left))
 
--- a line behind which the verdict is that of the others is one behind which the head goes on
-only_on : (says : LineOfHead) (with_it : HeadVerdict) → ((others : HeadVerdict) → others ≡ verdict_by says with_it others) → says ≡ goes_on_behind
+-- a line behind which there is found what the others have is one behind which the head goes on
+only_on : (says : LineOfHead) (with_it : HeadFound) → ((others : HeadFound) → others ≡ found_by says with_it others) → says ≡ goes_on_behind
 only_on goes_on_behind with_it h = refl
 only_on ends_head with_it h =
     let large : too_large ≡ with_it = h too_large in
     let none : taken [] 0 0 ≡ with_it = h (taken [] 0 0) in
     absurd (let f : ⊥ = cc in f)
-only_on (has_no_words line why) with_it h = let large : too_large ≡ refused line (Words why) = h too_large in absurd (let f : ⊥ = cc in f)
+only_on (isnt_cut line why) with_it h = let large : too_large ≡ refused line (Words why) = h too_large in absurd (let f : ⊥ = cc in f)
 only_on passes_limit with_it h = let none : taken [] 0 0 ≡ too_large = h (taken [] 0 0) in absurd (let f : ⊥ = cc in f)
 
 pub line_on : (text : List ℕ) (old new : Reading) (before : Option (List ℕ)) (left : List ℕ) → ReaderAnswered Line old new before (Some left)
     → (came : Option (Result (Unit {0}) HeadStop)) → came ≡ None
-    → ((others : HeadVerdict) → came_to came text new others ≡ verdict_by (line_by_words (reads_line old.next new.raw)) (taken text new.next new.room) others)
-    → line_of_head old.longest old.room old.next (physical_lines new.raw) ≡ goes_on_behind
+    → ((others : HeadFound) → came_to came text new others ≡ found_by (line_by_words (reads_line old.next new.raw)) (taken text new.next new.room) others)
+    → line_of_head old.room old.longest old.next (physical_lines new.raw) ≡ goes_on_behind
 line_on text old new before left a came none says =
     line_is old.longest old.room old.next new.raw (handed_answer old new before (Some left) a left a.at_end)
     ∙ only_on (line_by_words (reads_line old.next new.raw)) (taken text new.next new.room)
@@ -98,30 +98,30 @@ line_on text old new before left a came none says =
 
 -- some lines behind which the head goes on, and one more
 pub on_more : (longest room n : ℕ) (lines : List (List (List ℕ))) (line : List (List ℕ)) (left next : ℕ) → left ≡ room - length (bytes_of lines)
-    → next ≡ n + count_lines lines → line_of_head longest left next line ≡ goes_on_behind → AllGoOnBehind longest room n lines
-    → AllGoOnBehind longest room n (lines ++ line ∷ [])
+    → next ≡ n + count_lines lines → line_of_head left longest next line ≡ goes_on_behind → AllGoOnBehind room longest n lines
+    → AllGoOnBehind room longest n (lines ++ line ∷ [])
 on_more longest room n [] line left next at_room at_line says all =
     let none : length (bytes_of []) ≡ 0 = refl in
     let no_lines : count_lines [] ≡ 0 = refl in
     let here : left ≡ room = omega (arith, at_room, none) in
     let same : next ≡ n = omega (arith, at_line, no_lines) in
-    (subst (λ (k : ℕ). line_of_head longest room k line ≡ goes_on_behind) same (subst (λ (k : ℕ). line_of_head longest k next line ≡ goes_on_behind) here says), tt)
+    (subst (λ (k : ℕ). line_of_head room longest k line ≡ goes_on_behind) same (subst (λ (k : ℕ). line_of_head k longest next line ≡ goes_on_behind) here says), tt)
 on_more longest room n (first ∷ lines) line left next at_room at_line says all =
     let size = length-append (concat first) (bytes_of lines) in
     let count = sum_by-cons (λ (one : List (List ℕ)). length one) first lines in
     (all.0, on_more longest (room - length (concat first)) (n + length first) lines line left next (omega (arith, at_room, size)) (omega (arith, at_line, count)) says all.1)
 
 pub line_brings : (came : Option (Result (Unit {0}) HeadStop)) (text : List ℕ) (old new : Reading) (before after : Option (List ℕ)) → ReaderAnswered Line old new before after
-    → ((others : HeadVerdict) → came_to came (text ++ new.raw) new others
-    ≡ verdict_by (line_by_words (reads_line old.next new.raw)) (taken (text ++ new.raw) new.next new.room) others)
-    → BringsHead came (progress text old) (progress (text ++ new.raw) new) before after
+    → ((others : HeadFound) → came_to came (text ++ new.raw) new others
+    ≡ found_by (line_by_words (reads_line old.next new.raw)) (taken (text ++ new.raw) new.next new.room) others)
+    → BringsHead came (so_far text old) (so_far (text ++ new.raw) new) before after
 line_brings came text old new before None a says memory = ap (option_map (head_behind text old)) a.taken
 line_brings came text old new before (Some left) a says memory =
     ap (option_map (head_behind text old)) a.taken
     ∙ ap Some (line_whole text old new before left a ∙ sym (says (head_behind (text ++ new.raw) new left)))
 
 pub line_keeps : (text : List ℕ) (old new : Reading) (before after : Option (List ℕ)) → ReaderAnswered Line old new before after
-    → KeepsBytes (progress text old) (progress (text ++ new.raw) new) before after
+    → KeepsBytes (so_far text old) (so_far (text ++ new.raw) new) before after
 line_keeps text old new before None a = ap (option_map (λ (left : List ℕ). text ++ (old.held ++ left))) a.taken
 line_keeps text old new before (Some left) a =
     ap (option_map (λ (left : List ℕ). text ++ (old.held ++ left))) a.taken
@@ -145,28 +145,28 @@ line_can old new before after a can = record {
 
 -- nothing is left
 pub end_brings : (text : List ℕ) (old new : Reading) (before after : Option (List ℕ)) → ReaderAnswered End old new before after
-    → BringsHead (Some (Ok tt)) (progress text old) (progress text new) before after
+    → BringsHead (Some (Ok tt)) (so_far text old) (so_far text new) before after
 end_brings text old new before None a memory = ap (option_map (head_behind text old)) a.taken
 end_brings text old new before (Some left) a memory =
     let bytes : old.held ++ (a.bytes ++ left) ≡ []
     = sym (append_assoc old.held a.bytes left) ∙ (ap (λ (t : List ℕ). (old.held ++ a.bytes) ++ t) (a.at_end a.leaves.2) ∙ ap (λ (t : List ℕ). t ++ []) a.leaves.1) in
     ap (option_map (head_behind text old)) a.taken
-    ∙ ap (λ (t : List ℕ). Some (head_verdict old.longest text old.room old.next (raw_lines t))) bytes
+    ∙ ap (λ (t : List ℕ). Some (head_found old.longest text old.room old.next (raw_lines t))) bytes
     ∙ ap (λ (r : Reading). Some (taken text r.next r.room)) (sym a.leaves.0)
 
 -- the source failed, and what it gave before is held
 pub fault_brings : (text : List ℕ) (old new : Reading) (before after : Option (List ℕ)) → ReaderAnswered Failed old new before after
-    → BringsHead (Some (Err stop.ReadFault)) (progress text old) (progress text new) before after
+    → BringsHead (Some (Err stop.ReadFault)) (so_far text old) (so_far text new) before after
 fault_brings text old new before None a memory = ap (option_map (head_behind text old)) a.taken
 fault_brings text old new before (Some left) a memory =
     ap (option_map (head_behind text old)) a.taken
-    ∙ ap (λ (t : List ℕ). Some (head_verdict old.longest text old.room old.next (raw_lines t))) (sym (append_assoc old.held a.bytes left))
-    ∙ ap (λ (r : Reading). Some (head_verdict r.longest text r.room r.next (raw_lines (r.held ++ left)))) (sym a.leaves.0)
+    ∙ ap (λ (t : List ℕ). Some (head_found old.longest text old.room old.next (raw_lines t))) (sym (append_assoc old.held a.bytes left))
+    ∙ ap (λ (r : Reading). Some (head_found r.longest text r.room r.next (raw_lines (r.held ++ left)))) (sym a.leaves.0)
 
 -- a line isn't given, by its size
-stops_text : (text : List ℕ) (longest room n : ℕ) (bytes : List ℕ) (step : LineStep) (h : HeadVerdict)
-    → ((raw : List ℕ) (ends goes_on : HeadVerdict) → verdict_by (line_by_size step n raw) ends goes_on ≡ h) → (step ≡ End → ⊥) → step ≡ reader_answer room longest bytes
-    → head_verdict longest text room n (raw_lines bytes) ≡ h
+stops_text : (text : List ℕ) (longest room n : ℕ) (bytes : List ℕ) (step : LineStep) (h : HeadFound)
+    → ((raw : List ℕ) (ends goes_on : HeadFound) → found_by (line_by_size step n raw) ends goes_on ≡ h) → (step ≡ End → ⊥) → step ≡ reader_answer room longest bytes
+    → head_found longest text room n (raw_lines bytes) ≡ h
 stops_text text longest room n bytes step h sized other exact =
     let some = some_if step room longest bytes other exact in
     let k = cut_of bytes some in
@@ -175,27 +175,27 @@ stops_text text longest room n bytes step h sized other exact =
     let raw = concat (physical_lines k.raw) in
     let lines = length (physical_lines k.raw) in
     let ends = taken (text ++ raw) (n + lines) (room - length raw) in
-    let others = head_verdict longest (text ++ raw) (room - length raw) (n + lines) (raw_lines k.rest) in
-    ap (head_verdict longest text room n) k.lines ∙ (ap (λ s. verdict_by (line_by_size s n raw) ends others) answer ∙ sized raw ends others)
+    let others = head_found longest (text ++ raw) (room - length raw) (n + lines) (raw_lines k.rest) in
+    ap (head_found longest text room n) k.lines ∙ (ap (λ s. found_by (line_by_size s n raw) ends others) answer ∙ sized raw ends others)
 
-stop_brings : (text : List ℕ) (old new : Reading) (before after : Option (List ℕ)) (step : LineStep) (why : HeadStop) (h : HeadVerdict) → ReaderAnswered step old new before after
-    → ((raw : List ℕ) (ends goes_on : HeadVerdict) → verdict_by (line_by_size step old.next raw) ends goes_on ≡ h) → ((others : HeadVerdict) → came_to (Some (Err why)) text new others ≡ h)
-    → (step ≡ End → ⊥) → (step ≡ Failed → ⊥) → BringsHead (Some (Err why)) (progress text old) (progress text new) before after
+stop_brings : (text : List ℕ) (old new : Reading) (before after : Option (List ℕ)) (step : LineStep) (why : HeadStop) (h : HeadFound) → ReaderAnswered step old new before after
+    → ((raw : List ℕ) (ends goes_on : HeadFound) → found_by (line_by_size step old.next raw) ends goes_on ≡ h) → ((others : HeadFound) → came_to (Some (Err why)) text new others ≡ h)
+    → (step ≡ End → ⊥) → (step ≡ Failed → ⊥) → BringsHead (Some (Err why)) (so_far text old) (so_far text new) before after
 stop_brings text old new before None step why h a sized came other given memory = ap (option_map (head_behind text old)) a.taken
 stop_brings text old new before (Some left) step why h a sized came other given memory =
     ap (option_map (head_behind text old)) a.taken
-    ∙ ap (λ (t : List ℕ). Some (head_verdict old.longest text old.room old.next (raw_lines t))) (sym (append_assoc old.held a.bytes left))
+    ∙ ap (λ (t : List ℕ). Some (head_found old.longest text old.room old.next (raw_lines t))) (sym (append_assoc old.held a.bytes left))
     ∙ ap Some (stops_text text old.longest old.room old.next ((old.held ++ a.bytes) ++ left) step h sized other (a.exact given left a.at_end)
     ∙ sym (came (head_behind text new left)))
 
 pub too_long_brings : (text : List ℕ) (old new : Reading) (before after : Option (List ℕ)) → ReaderAnswered TooLong old new before after
-    → BringsHead (Some (Err (stop.Refused old.next (Words LineTooLong)))) (progress text old) (progress text new) before after
+    → BringsHead (Some (Err (stop.Refused old.next (Words LineTooLong)))) (so_far text old) (so_far text new) before after
 too_long_brings text old new before after a =
     stop_brings text old new before after TooLong (stop.Refused old.next (Words LineTooLong)) (refused old.next (Words LineTooLong)) a (λ raw ends goes_on. refl) (λ others. refl)
     (λ e. cc) (λ e. cc)
 
 pub too_large_brings : (text : List ℕ) (old new : Reading) (before after : Option (List ℕ)) → ReaderAnswered TooLarge old new before after
-    → BringsHead (Some (Err stop.TooLarge)) (progress text old) (progress text new) before after
+    → BringsHead (Some (Err stop.TooLarge)) (so_far text old) (so_far text new) before after
 too_large_brings text old new before after a =
     stop_brings text old new before after TooLarge stop.TooLarge too_large a (λ raw ends goes_on. refl) (λ others. refl) (λ e. cc) (λ e. cc)
 
@@ -223,7 +223,7 @@ next_stays TooLarge old new before after a other = ap (λ (r : Reading). r.next)
 next_stays Failed old new before after a other = ap (λ (r : Reading). r.next) a.leaves.0
 
 pub keeps : (step : LineStep) (text : List ℕ) (old new : Reading) (before after : Option (List ℕ)) → ReaderAnswered step old new before after → (step ≡ Line → ⊥)
-    → KeepsBytes (progress text old) (progress text new) before after
+    → KeepsBytes (so_far text old) (so_far text new) before after
 keeps step text old new before None a other = ap (option_map (λ (left : List ℕ). text ++ (old.held ++ left))) a.taken
 keeps step text old new before (Some left) a other =
     ap (option_map (λ (left : List ℕ). text ++ (old.held ++ left))) a.taken

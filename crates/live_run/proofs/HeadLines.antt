@@ -6,8 +6,8 @@ use Rattle.cluster_io.specs.declared.line_step.LineStep.{LineStep}
 use Rattle.cluster_io.specs.declared.line_step.LineStep.TheVariants.{Line, Failed}
 use Rattle.crm_lex.specs.RawLines.{physical_lines, raw_lines}
 use Rattle.crm_lex.specs.Reading.{reads_line}
-use Rattle.live_run.specs.Followed.{bytes_of}
-use Rattle.live_run.specs.Heads.{HasHeadGoneOn, HasTaken, HeadVerdict, goes_on_behind, line_by_words, line_of_head, taken, verdict_by}
+use Rattle.live_run.specs.SourceFollowed.{bytes_of}
+use Rattle.live_run.specs.Heads.{HasHeadGoneOn, HasTaken, HeadFound, goes_on_behind, line_by_words, line_of_head, taken, found_by}
 use Rattle.live_run.specs.Inner.HeadSteps.{StillAmid, came_to}
 use Rattle.live_run.specs.declared.head.HeadStop.{HeadStop}
 use Rattle.live_run.specs.declared.head.HeadStop.TheVariants as stop
@@ -74,7 +74,7 @@ module _ (first old new : Reading) (text : List ℕ) (given : Option (List ℕ))
   -- behind one more the head goes on
   pub line_gone : (before after : Option (List ℕ)) → HasHeadGoneOn first old text given before → (a : ReaderAnswered Line old new before after)
       → (came : Option (Result (Unit {0}) HeadStop)) → came ≡ None
-      → ((others : HeadVerdict) → came_to came (text ++ new.raw) new others ≡ verdict_by (line_by_words (reads_line old.next new.raw)) (taken (text ++ new.raw) new.next new.room) others)
+      → ((others : HeadFound) → came_to came (text ++ new.raw) new others ≡ found_by (line_by_words (reads_line old.next new.raw)) (taken (text ++ new.raw) new.next new.room) others)
       → HasHeadGoneOn first new (text ++ new.raw) given after
   unfolding line_taken
   line_gone before None h a came none says = record {
@@ -90,7 +90,7 @@ module _ (first old new : Reading) (text : List ℕ) (given : Option (List ℕ))
         let size = ap length h.taken.text_is in
         let room = h.taken.room in
         on_more first.longest first.room first.next h.taken.lines (physical_lines new.raw) old.room old.next (omega (arith, size, room)) h.taken.number
-        (subst (λ (n : ℕ). line_of_head n old.room old.next (physical_lines new.raw) ≡ goes_on_behind) h.same_size
+        (subst (λ (n : ℕ). line_of_head old.room n old.next (physical_lines new.raw) ≡ goes_on_behind) h.same_size
         (line_on (text ++ new.raw) old new (Some bytes) left a came none says)) h.goes_on;
   }
 

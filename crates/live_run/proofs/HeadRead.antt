@@ -1,4 +1,4 @@
--- What the verdict on a head says of its lines.
+-- What is found as a head says of its lines.
 use Rattle.std.proofs.Common.{arith, ◌≡◌, ◌<◌, ◌≤◌, ◌+◌, ◌-◌, ℕ, Bool, true, false, if◌then◌else◌, List, [], ◌∷◌, ◌++◌, length, length-append, codes, Ok, append_assoc, append-nil, refl, sym, ap, subst, ◌∙◌}
 use Rattle.std.specs.Prelude.{Some, min, nat_lt, nat_le}
 use Rattle.std.specs.List.{concat, list_any}
@@ -24,7 +24,7 @@ use Rattle.input_reading.specs.declared.input.cause.InputCause.TheVariants.{Word
 use Rattle.input_reading.proofs.Faults.{StandsAt, first_group}
 use Rattle.live_run.specs.Heads as heads
 use Rattle.crm_lex.proofs.FaultOrder.{count_lines}
-use Rattle.live_run.specs.Followed.{bytes_of}
+use Rattle.live_run.specs.SourceFollowed.{bytes_of}
 use Rattle.live_run.proofs.LinesJoined.{none_first}
 
 -- a line begins the results
@@ -54,8 +54,8 @@ pub record LackWords (n : ℕ) (groups : List (List (List ℕ))) (line : ℕ) (w
   pub is_lack : why ≡ Words lack
   pub first : first_lex_fault (faults_from n groups) ≡ Some (At line lack)
 
--- what a verdict says: a head; the first fault of the lines; or that they don't lie within the limit
-abbrev pub SaysHead : List ℕ → ℕ → ℕ → List (List (List ℕ)) → heads.HeadVerdict → Type 0
+-- what is found says: a head; the first fault of the lines; or that they don't lie within the limit
+abbrev pub SaysHead : List ℕ → ℕ → ℕ → List (List (List ℕ)) → heads.HeadFound → Type 0
 SaysHead before room n groups (heads.taken text next left) = HasHead before room n groups text next left
 SaysHead before room n groups (heads.refused line why) = LackWords n groups line why
 SaysHead before room n groups heads.too_large = room < length (bytes_of groups)
@@ -101,8 +101,8 @@ pub fault_behind : (found more : List (Fault LexCause)) (line : ℕ) (why : LexC
 fault_behind found more line why none first = rw none first
 
 module _ (before : List ℕ) (room n : ℕ) (group : List (List ℕ)) (groups : List (List (List ℕ))) where
-  -- the verdict on the lines behind the first
-  abbrev Behind : heads.HeadVerdict → Type 0
+  -- what is found in the lines behind the first
+  abbrev Behind : heads.HeadFound → Type 0
   Behind = SaysHead (before ++ concat group) (room - length (concat group)) (n + length group) groups
 
   no_row : (words : List (List ℕ)) (rows : List Line) → heads.begins_results words ≡ false → list_any results_row rows ≡ false → list_any results_row (row n words ++ rows) ≡ false
@@ -115,7 +115,7 @@ module _ (before : List ℕ) (room n : ℕ) (group : List (List ℕ)) (groups : 
       let here = row n (words_of (line_text group)) in
       at_results (here ++ front) mark (ap (λ (rows : List Line). here ++ rows) is ∙ sym (append_assoc here front (mark ∷ []))) (no_row (words_of (line_text group)) front plain none) there
 
-  goes_on : (verdict : heads.HeadVerdict) → length (concat group) ≤ room → faults n group ≡ [] → heads.begins_results (words_of (line_text group)) ≡ false → Behind verdict → SaysHead before room n (group ∷ groups) verdict
+  goes_on : (verdict : heads.HeadFound) → length (concat group) ≤ room → faults n group ≡ [] → heads.begins_results (words_of (line_text group)) ≡ false → Behind verdict → SaysHead before room n (group ∷ groups) verdict
   goes_on (heads.taken text next left) fits clean plain h =
       let size = length-append (concat group) (bytes_of h.first) in
       let number = h.number in
@@ -137,15 +137,15 @@ module _ (before : List ℕ) (room n : ℕ) (group : List (List ℕ)) (groups : 
   goes_on heads.too_large fits clean plain h = let size = length-append (concat group) (bytes_of groups) in omega (arith, h, size)
 
   -- by the words of the first line
-  abbrev With : heads.HeadVerdict
+  abbrev With : heads.HeadFound
   With = heads.taken (before ++ concat group) (n + length group) (room - length (concat group))
 
-  of_words : (verdict : heads.HeadVerdict) (words : List (List ℕ)) → length (concat group) ≤ room → words_of (line_text group) ≡ words → faults n group ≡ [] → Behind verdict
-      → SaysHead before room n (group ∷ groups) (heads.verdict_by (heads.line_by_words (Ok words)) With verdict)
+  of_words : (verdict : heads.HeadFound) (words : List (List ℕ)) → length (concat group) ≤ room → words_of (line_text group) ≡ words → faults n group ≡ [] → Behind verdict
+      → SaysHead before room n (group ∷ groups) (heads.found_by (heads.line_by_words (Ok words)) With verdict)
   of_words verdict [] fits same clean h = goes_on verdict fits clean (rw same refl) h
   of_words verdict (word ∷ words) fits same clean h = by (is word (codes "%results")) refl
     where
-      by : (b : Bool) → is word (codes "%results") ≡ b → SaysHead before room n (group ∷ groups) (heads.verdict_by (if b then heads.ends_head else heads.goes_on_behind) With verdict)
+      by : (b : Bool) → is word (codes "%results") ≡ b → SaysHead before room n (group ∷ groups) (heads.found_by (if b then heads.ends_head else heads.goes_on_behind) With verdict)
       by true there =
           let bytes : concat group ++ [] ≡ concat group = append-nil (concat group) in
           record {
@@ -161,23 +161,23 @@ module _ (before : List ℕ) (room n : ℕ) (group : List (List ℕ)) (groups : 
           }
       by false plain = goes_on verdict fits clean (rw same plain) h
 
-  of_faults : (verdict : heads.HeadVerdict) (found : List (Fault LexCause)) → length (concat group) ≤ room → faults n group ≡ found → Behind verdict
-      → SaysHead before room n (group ∷ groups) (heads.verdict_by (heads.line_by_words (unless (first_lex_fault found) (words_of (line_text group)))) With verdict)
+  of_faults : (verdict : heads.HeadFound) (found : List (Fault LexCause)) → length (concat group) ≤ room → faults n group ≡ found → Behind verdict
+      → SaysHead before room n (group ∷ groups) (heads.found_by (heads.line_by_words (unless (first_lex_fault found) (words_of (line_text group)))) With verdict)
   of_faults verdict [] fits clean h = of_words verdict (words_of (line_text group)) fits refl clean h
   of_faults verdict (At line why ∷ found) fits at h = record { lack = why; is_lack = refl; first = rw at refl }
   of_faults verdict (NoMemory ∷ found) fits at h = absurd (subst (λ (faults : List (Fault LexCause)). StandsAt (first_lex_fault faults)) at (first_group n group))
 
-  of_size : (verdict : heads.HeadVerdict) (size : LineStep) → SaysSize room group size → physical_lines (concat group) ≡ group → Behind verdict
-      → SaysHead before room n (group ∷ groups) (heads.verdict_by (heads.line_by_size size n (concat group)) With verdict)
+  of_size : (verdict : heads.HeadFound) (size : LineStep) → SaysSize room group size → physical_lines (concat group) ≡ group → Behind verdict
+      → SaysHead before room n (group ∷ groups) (heads.found_by (heads.line_by_size size n (concat group)) With verdict)
   of_size verdict step.Line s own h =
-      subst (λ (read : _). SaysHead before room n (group ∷ groups) (heads.verdict_by (heads.line_by_words read) With verdict)) (sym (line_read n group own))
+      subst (λ (read : _). SaysHead before room n (group ∷ groups) (heads.found_by (heads.line_by_words read) With verdict)) (sym (line_read n group own))
       (of_faults verdict (faults n group) s refl h)
   of_size verdict step.TooLong s own h = record { lack = LineTooLong; is_lack = refl; first = s n (faults_from (n + length group) groups) }
   of_size verdict step.TooLarge s own h = let size = length-append (concat group) (bytes_of groups) in omega (arith, s, size)
   of_size verdict step.End s own h = absurd s
   of_size verdict step.Failed s own h = absurd s
 
-pub head_is : (before : List ℕ) (room n : ℕ) (groups : List (List (List ℕ))) → AllOwn groups → SaysHead before room n groups (heads.head_verdict 1048576 before room n groups)
+pub head_is : (before : List ℕ) (room n : ℕ) (groups : List (List (List ℕ))) → AllOwn groups → SaysHead before room n groups (heads.head_found 1048576 before room n groups)
 head_is before room n [] own = record {
   first = [];
   more = [];
@@ -190,5 +190,5 @@ head_is before room n [] own = record {
   ends = with_all refl refl;
 }
 head_is before room n (group ∷ groups) own =
-    of_size before room n group groups (heads.head_verdict 1048576 (before ++ concat group) (room - length (concat group)) (n + length group) groups) (line_answer room 1048576 group)
+    of_size before room n group groups (heads.head_found 1048576 (before ++ concat group) (room - length (concat group)) (n + length group) groups) (line_answer room 1048576 group)
     (size_says room group) own.0 (head_is (before ++ concat group) (room - length (concat group)) (n + length group) groups own.1)

@@ -13,9 +13,9 @@ use Rattle.crm_lex.specs.declared.fault.LexCause.{LexCause}
 use Rattle.faults.specs.Reading.{unless}
 use Rattle.faults.specs.declared.fault.Fault.{Fault}
 use Rattle.input_reading.specs.declared.history_fault.ResultCause.{ResultCause}
-use Rattle.live_run.specs.AtHand.{HoldsResultLine}
+use Rattle.live_run.specs.AnswersAtHand.{HoldsResultLine}
 use Rattle.live_run.specs.Inner.ComingSteps.{said_came}
-use Rattle.live_run.specs.Saying.{answer_says, line_says, read_says, words_say}
+use Rattle.live_run.specs.LineSays.{answer_says, line_says, read_says, words_say}
 use Rattle.live_run.specs.declared.place.Place.{Place}
 use Rattle.live_run.specs.declared.line_meaning.Said.{Said}
 use Rattle.live_run.specs.declared.line_meaning.Said.TheVariants as said

@@ -14,7 +14,7 @@ use Rattle.crm_lex.proofs.Pieces.{whole_by_pieces}
 use Rattle.crm_lex.proofs.PhysicalLines.{Whole, Whole-back, Whole-front, Whole-physical, concat-lines, lines-concat}
 use Rattle.faults.specs.declared.fault.Fault.{Fault}
 use Rattle.faults.specs.Reading.{unless}
-use Rattle.live_run.specs.Followed.{bytes_of}
+use Rattle.live_run.specs.SourceFollowed.{bytes_of}
 
 pub rows_joined : (n : ℕ) (xs ys : List (List (List ℕ))) → rows_from n (xs ++ ys) ≡ rows_from n xs ++ rows_from (n + count_lines xs) ys
 rows_joined n [] ys = ap (λ (m : ℕ). rows_from m ys) (let e : n ≡ n + 0 = omega arith in e)

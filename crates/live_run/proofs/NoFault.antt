@@ -11,8 +11,8 @@ use Rattle.crm_lex.specs.declared.fault.LexCause.{LexCause}
 use Rattle.faults.specs.declared.fault.Fault.{Fault}
 use Rattle.input_reading.specs.Results.{result_of}
 use Rattle.input_reading.specs.declared.history_fault.ResultCause.{ResultCause}
-use Rattle.live_run.specs.Coming.{Coming, coming, said_first}
-use Rattle.live_run.specs.Saying.{answer_says, is_last, line_says_within, place_behind_said, read_says, sized_says, words_say}
+use Rattle.live_run.specs.AnswersToCome.{Coming, coming, said_first}
+use Rattle.live_run.specs.LineSays.{answer_says, is_last, line_says_within, place_behind_said, read_says, sized_says, words_say}
 use Rattle.live_run.specs.declared.line_stop.LineCause.TheVariants as cause
 use Rattle.live_run.specs.declared.line_stop.LineStop.TheVariants as why
 use Rattle.live_run.specs.declared.place.Place.{Place}

@@ -16,10 +16,10 @@ use Rattle.cluster_types.specs.Journals.{moment_of}
 use Rattle.cluster_types.specs.Runs.{RunStanding, due, amid, idle, Runs, here, IsAsking, IsBetween, IsOver, IsRunSoFar, IsStoppedRun, IsWholeRun}
 use Rattle.cluster_types.specs.Texts.{run_line}
 use Rattle.crm_lex.specs.RawLines.{raw_lines}
-use Rattle.live_run.specs.Coming.{Coming, coming, no_more}
+use Rattle.live_run.specs.AnswersToCome.{Coming, coming, no_more}
 use Rattle.live_run.specs.Courses.{SourceState, answers_to_come, in_course, rest_of, starting, stop_of, coming_to, told_by, whole_of, why_stopped}
-use Rattle.live_run.specs.Followed.{AreNear, NoneOrLastSays, SourceFollows, HasBroken, HasQuestionFailed, HasStopped, View, by_line, by_source, bytes_of, results_first, said_by}
-use Rattle.live_run.specs.Saying.{is_last}
+use Rattle.live_run.specs.SourceFollowed.{AreNear, NoneOrLastSays, SourceFollows, HasBroken, HasQuestionFailed, HasStopped, SourceView, by_line, by_source, bytes_of, results_first, said_by}
+use Rattle.live_run.specs.LineSays.{is_last}
 use Rattle.live_run.specs.LineCauses.{line_refusal_text}
 use Rattle.live_run.specs.Inner.Fronts.{adds_none, front_prefix, prefix_first, short_behind, whole_prefix}
 use Rattle.live_run.proofs.Written.{all_left, all_out, none_left}
@@ -27,8 +27,8 @@ use Rattle.live_run.specs.declared.course.Course.{Course}
 use Rattle.live_run.specs.declared.course.Course.TheVariants as course
 use Rattle.live_run.specs.declared.line_stop.LineStop.{LineStop}
 use Rattle.live_run.specs.declared.line_stop.LineStop.TheVariants as why
-use Rattle.live_run.specs.Ends.{AsksForMore, EndGets, IsDueText, WholeRunGives, run_lines_text}
-use Rattle.live_run.specs.Reached.{IsBrokenOff, IsCutOff, Reaches, at_rest, in_run, of_refusal, of_unexpected, results_behind}
+use Rattle.live_run.specs.Ends.{AsksForMore, EndGets, IsDueEnd, WholeRunGives, run_lines_text}
+use Rattle.live_run.specs.RunReached.{IsBrokenOff, IsCutOff, Reaches, of_held_back, in_run, of_refusal, of_unexpected, results_behind}
 use Rattle.live_run.specs.Inner.RunEnds.{EndsCut, EndsDone, EndsLines, EndsWithoutMemory}
 use Rattle.live_run.specs.declared.live_end.LiveEnd.{LiveEnd}
 use Rattle.live_run.specs.declared.live_end.LiveEnd.TheVariants as end
@@ -37,10 +37,10 @@ use Rattle.live_run.proofs.Dues.{begins_due, one_end}
 use Rattle.input_reading.specs.declared.results.result_lines.ResultLine.{ResultLine}
 use Rattle.graph_exec.specs.Replays.{setting, sight}
 use Rattle.graph_exec.proofs.Whole.{asks_still}
-use Rattle.live_run.specs.Writing.{CutsShort, GoesOut, last_text}
+use Rattle.live_run.specs.HeldAndWritten.{CutsShort, GoesOut, last_text}
 use Rattle.graph_exec.specs.Replays as replays
 use Rattle.graph_exec.specs.RunEnds.{in_failure, unexpected, with_all}
-use Rattle.run_safety.specs.Followed.{IsFront, at_first}
+use Rattle.run_safety.specs.TwoRuns.{IsFront, at_first}
 use Rattle.run_safety.proofs.Between.{ends_between}
 use Rattle.live_run.proofs.Given.{CutBy, cut_by, given_by}
 use Rattle.run_safety.proofs.Silent.{not_over}
@@ -61,7 +61,7 @@ module _ (c : Cluster) (journal : Journal) (reading : Reading) where
     where
       by : (w : Option LineStop) → coming.stop ≡ w → WholeRunGives c journal coming lines
       by None e = record {
-        left = left;
+        journal_now = left;
         all = e;
         run = subst (λ z. IsWholeRun c journal.promotions (is_none z) journal.events (Some (answers_to_come coming)) lines left) e run;
       }
@@ -98,14 +98,14 @@ module _ (c : Cluster) (journal : Journal) (reading : Reading) where
         let coming = results_behind c journal reading left in
         let run = subst (λ (x : Option (List Answer)). Runs c journal.promotions (is_none coming.stop) (due 1 journal.events) (Some (answers_to_come coming)) lines at x) g.rest runs in
         record {
-          call = at_rest (record {
+          call = of_held_back (record {
             printed = lines;
             at = at;
             asked = record { results = g.given; stop = None };
             behind = g.behind;
             split = g.split;
             run = run;
-            rests = rests;
+            waits = rests;
             one_more = inl refl;
           });
           read = g.read;
@@ -286,7 +286,7 @@ module _ (c : Cluster) (journal : Journal) (reading : Reading) where
         let coming = results_behind c journal reading left in
         let short = short_behind (run_lines_text c printed) [] held [] old middle new added put in
         record {
-          call = at_rest (record {
+          call = of_held_back (record {
             printed = printed;
             at = more.run.last;
             asked = coming;
@@ -294,7 +294,7 @@ module _ (c : Cluster) (journal : Journal) (reading : Reading) where
             split = sym (append-nil coming.results);
             run = subst (λ (z : Option LineStop). Runs c journal.promotions (is_none z) (due 1 journal.events) (Some (answers_to_come coming)) printed more.run.last (Some [])) (sym stop)
                 more.run.steps;
-            rests = inl (asks_still c journal.promotions false (is_none coming.stop) more.run.last more.run.asking);
+            waits = inl (asks_still c journal.promotions false (is_none coming.stop) more.run.last more.run.asking);
             one_more = inr refl;
           });
           read = inl (record { lines = lines; first = first; said = said ∙ sym all; ends = ends; bytes = bytes; taken = taken; near = near });
@@ -324,7 +324,7 @@ module _ (c : Cluster) (journal : Journal) (reading : Reading) where
             = ap (λ (x : Option (List ℕ)). rest_of (told_by t x)) (sym o) ∙ ap (λ (x : Coming). Some (answers_to_come x)) (stops_here t h.why rest h.last h.stop) in
             let more : AsksForMore c journal (results_behind c journal reading left) w.lines
             = record {
-              left = j.events;
+              journal_now = j.events;
               run = subst (λ (x : Option (List Answer)). IsRunSoFar c journal.promotions false journal.events (Some (answers_to_come (results_behind c journal reading left))) w.lines j.events x) behind
                   (subst (λ (z : Option LineStop). IsRunSoFar c journal.promotions (is_none z) journal.events (Some (answers_to_come (results_behind c journal reading left))) w.lines j.events
                   (rest_of (told_by t after))) stop w.ended.run);
@@ -449,18 +449,18 @@ nothing_reached c journal reading (Some left) after text =
 -- which end a run gets, where no count rose and memory sufficed
 module _ (c : Cluster) (journal : Journal) (reading : Reading) (after old new : Option (List ℕ)) (Read Wrote : Type 0) where
   pub complete_by : (before : Option (List ℕ)) (how : LiveEnd) → IfSome before (λ left. Reaches c journal reading left after old new how) → (how ≡ end.ReadFault → Read) → (how ≡ end.WriteFault → Wrote)
-      → IfSome before (λ left. ¬ Read → ¬ Wrote → how ≢ end.NoMemory → (this : LiveEnd) → (how ≡ this) ↔ IsDueText c journal (results_behind c journal reading left) this)
+      → IfSome before (λ left. ¬ Read → ¬ Wrote → how ≢ end.NoMemory → (this : LiveEnd) → (how ≡ this) ↔ IsDueEnd c journal (results_behind c journal reading left) this)
   complete_by None how r a b = tt
   complete_by (Some left) how r a b = λ no_read no_write memory this. by how r a b no_read no_write memory this
     where
-      written : (k this : LiveEnd) (text : List ℕ) → EndGets c journal (results_behind c journal reading left) k text → (k ≡ this) ↔ IsDueText c journal (results_behind c journal reading left) this
+      written : (k this : LiveEnd) (text : List ℕ) → EndGets c journal (results_behind c journal reading left) k text → (k ≡ this) ↔ IsDueEnd c journal (results_behind c journal reading left) this
       written k this text gets = (
-        λ e. subst (IsDueText c journal (results_behind c journal reading left)) e (record { text = text; gets = gets }),
+        λ e. subst (IsDueEnd c journal (results_behind c journal reading left)) e (record { text = text; gets = gets }),
         λ d. (one_end c journal (results_behind c journal reading left) k this text d.text gets d.gets).0,
       )
 
       by : (k : LiveEnd) → Reaches c journal reading left after old new k → (k ≡ end.ReadFault → Read) → (k ≡ end.WriteFault → Wrote) → ¬ Read → ¬ Wrote → k ≢ end.NoMemory
-          → (this : LiveEnd) → (k ≡ this) ↔ IsDueText c journal (results_behind c journal reading left) this
+          → (this : LiveEnd) → (k ≡ this) ↔ IsDueEnd c journal (results_behind c journal reading left) this
       by end.Done r a b no_read no_write memory this = written end.Done this r.text r.gets
       by end.Unexpected r a b no_read no_write memory this = written end.Unexpected this r.text r.gets
       by end.Refused r a b no_read no_write memory this = written end.Refused this r.text r.gets
@@ -505,6 +505,6 @@ module _ (c : Cluster) (journal : Journal) (reading : Reading) (s t : SourceStat
       → (how : LiveEnd) → EndsWithoutMemory held how middle new → IfSome before (λ left. Reaches c journal reading left after old new how)
   between_from tells w f how e = between_reached c journal reading Follows Stopped before after old middle new held t was is (tells_so tells) (rw fresh at w) (rw fresh at f) how e
 
-pub failed_kind : (exact : Bool) (v u : View) → HasQuestionFailed exact v u → HasBroken v.standing u.standing v.left u.left ⊎ HasStopped v.standing u.standing v.left u.left
+pub failed_kind : (exact : Bool) (v u : SourceView) → HasQuestionFailed exact v u → HasBroken v.state u.state v.left u.left ⊎ HasStopped v.state u.state v.left u.left
 failed_kind exact v u (by_source h failed) = inl h
 failed_kind exact v u (by_line h counts) = inr h

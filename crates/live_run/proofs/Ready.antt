@@ -10,7 +10,7 @@ use Rattle.crm_lex.specs.Words.{first_byte, has_pieces, is_gap, is_quote, letter
 use Rattle.crm_lex.specs.declared.quoting.Piece.{Piece}
 use Rattle.crm_lex.specs.declared.quoting.Piece.TheVariants.{Gap, Letter}
 use Rattle.crm_lex.specs.declared.quoting.Place.TheVariants.{Outside}
-use Rattle.live_run.specs.AtHand.{HoldsResultLine}
+use Rattle.live_run.specs.AnswersAtHand.{HoldsResultLine}
 use Rattle.live_run.specs.Inner.PlainLines.{is_closed_line}
 
 -- no byte of these is a backslash

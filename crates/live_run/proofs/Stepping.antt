@@ -10,12 +10,12 @@ use Rattle.cluster_types.specs.declared.cluster.Cluster.{Cluster}
 use Rattle.crm_lex.specs.RawLines.{physical_lines, raw_lines}
 use Rattle.crm_lex.specs.declared.fault.LexCause.TheVariants.{LineTooLong}
 use Rattle.crm_lex.proofs.PhysicalLines.{concat-lines}
-use Rattle.live_run.specs.Coming.{Coming, Lines, coming, no_more, said_first}
+use Rattle.live_run.specs.AnswersToCome.{Coming, Lines, coming, no_more, said_first}
 use Rattle.live_run.specs.Inner.ComingSteps.{said_came}
-use Rattle.live_run.specs.Followed.{AreNear, LastLineSays, HasRead, IsStoppedBy, bytes_of, count_said, results_first, said_by}
-use Rattle.run_safety.specs.Followed.{IsFront}
+use Rattle.live_run.specs.SourceFollowed.{AreNear, LastLineSays, HasRead, IsStoppedBy, bytes_of, count_said, results_first, said_by}
+use Rattle.run_safety.specs.TwoRuns.{IsFront}
 use Rattle.live_run.specs.Inner.ReadSteps.{ReadUntil}
-use Rattle.live_run.specs.Saying.{line_says, place_behind_said, line_says_within, sized_says}
+use Rattle.live_run.specs.LineSays.{line_says, place_behind_said, line_says_within, sized_says}
 use Rattle.live_run.specs.declared.line_result.Came.TheVariants as came
 use Rattle.live_run.specs.declared.line_stop.LineCause.TheVariants as cause
 use Rattle.live_run.specs.declared.line_stop.LineStop.{LineStop}

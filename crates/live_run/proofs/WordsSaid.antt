@@ -5,7 +5,7 @@ use Rattle.crm_lex.specs.Reading.{Kept, kept, kept_of, without_words}
 use Rattle.crm_lex.specs.declared.fault.LexCause.{LexCause}
 use Rattle.faults.specs.declared.fault.Fault.{Fault}
 use Rattle.input_reading.specs.Results.{result_of}
-use Rattle.live_run.specs.Saying.{answer_says, read_says, refused_for, words_say}
+use Rattle.live_run.specs.LineSays.{answer_says, read_says, refused_for, words_say}
 use Rattle.live_run.specs.declared.line_stop.LineCause.TheVariants as cause
 use Rattle.live_run.specs.declared.place.Place.{Place}
 use Rattle.live_run.specs.declared.line_meaning.Said.{Said}

@@ -10,11 +10,12 @@ use Rattle.cluster_types.specs.declared.cluster.Cluster.{Cluster}
 use Rattle.cluster_types.specs.declared.run.RunLine.{RunLine}
 use Rattle.cluster_types.specs.Texts.{run_line}
 use Rattle.graph_exec.specs.declared.transition.watcher.Heard.TheVariants as heard
-use Rattle.graph_exec.specs.Telling.{StopsAmong}
+use Rattle.graph_exec.specs.WatcherLines.{StopsAmong}
 use Rattle.live_run.specs.Ends.{run_lines_text}
-use Rattle.live_run.specs.FollowedLaws.{goes_then}
+use Rattle.live_run.specs.SourceFollowedLaws.{goes_then}
 use Rattle.live_run.specs.Inner.Fronts.{adds_none, short_behind, short_first, short_rest}
-use Rattle.live_run.specs.Writing.{CutsShort, GoesOut, HasFailedBehind, HasWrittenLines, IsSameSink, Puts, PutsBehind, PutsLast, PutsLines, WriterView, heard_of, most_held}
+use Rattle.live_run.specs.HeldAndWritten.{CutsShort, GoesOut, HasFailedBehind, HasWrittenLines, IsSameSink, Puts, PutsLast, WriterView, most_held}
+use Rattle.live_run.specs.Inner.WriteResults.{PutsBehind, PutsLines, heard_of}
 
 -- what one `write_text` has written
 pub puts_written : (r : Result (Unit {0}) WriteFault) (text : List ℕ) (before after : Option (List ℕ)) → OnOk r (Adds before text after) → OnErr r (AddsPrefix text before after)

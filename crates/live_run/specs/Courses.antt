@@ -7,8 +7,8 @@ use Rattle.cluster_types.specs.declared.journal.Answer.{Answer}
 use Rattle.graph_exec.specs.declared.transition.outcomes.Next.{Next}
 use Rattle.graph_exec.specs.declared.transition.outcomes.Next.TheVariants as next
 use Rattle.input_reading.specs.declared.results.result_lines.ResultLine.{ResultLine}
-use Rattle.live_run.specs.Coming.{Coming, Lines, coming_of, no_more, result_first}
-use Rattle.live_run.specs.Saying.{is_last}
+use Rattle.live_run.specs.AnswersToCome.{Coming, Lines, coming_of, no_more, result_first}
+use Rattle.live_run.specs.LineSays.{is_last}
 use Rattle.live_run.specs.declared.course.Course.{Course}
 use Rattle.live_run.specs.declared.course.Course.TheVariants as course
 use Rattle.live_run.specs.declared.line_stop.LineStop.{LineStop}

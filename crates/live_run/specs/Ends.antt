@@ -9,7 +9,7 @@ use Rattle.cluster_types.specs.declared.run.RunLine.{RunLine}
 use Rattle.cluster_types.specs.declared.run.RunLine.TheVariants as line
 use Rattle.cluster_types.specs.Runs.{IsCutRun, IsRunSoFar, IsWholeRun}
 use Rattle.cluster_types.specs.Texts.{run_line}
-use Rattle.live_run.specs.Coming.{Coming}
+use Rattle.live_run.specs.AnswersToCome.{Coming}
 use Rattle.live_run.specs.Courses.{answers_to_come}
 use Rattle.live_run.specs.declared.line_stop.LineCause.{LineCause}
 use Rattle.live_run.specs.declared.line_stop.LineStop.TheVariants as why
@@ -26,22 +26,22 @@ run_lines_text c lines = flat_map (run_line c) lines
 module _ (c : Cluster) (journal : Journal) (coming : Coming) where
   -- the whole run prints these lines
   pub record WholeRunGives (lines : List RunLine) : Type 0 where
-    pub left : List Event
+    pub journal_now : List Event
     pub all : coming.stop ≡ None
-    pub run : IsWholeRun c journal.promotions true journal.events (Some (answers_to_come coming)) lines left
+    pub run : IsWholeRun c journal.promotions true journal.events (Some (answers_to_come coming)) lines journal_now
 
   -- the run prints these lines, takes these answers, and is cut by the next, which doesn't apply
   pub record CutRunGives (lines : List RunLine) (given : List ResultLine) (result : ResultLine) : Type 0 where
-    pub left : List Event
+    pub journal_now : List Event
     pub behind : List ResultLine
     pub parts : coming.results ≡ given ++ result ∷ behind
-    pub run : IsCutRun c journal.promotions (is_none coming.stop) journal.events (Some (answers_to_come coming)) lines left result.answer
+    pub run : IsCutRun c journal.promotions (is_none coming.stop) journal.events (Some (answers_to_come coming)) lines journal_now result.answer
         (Some (map (λ (r : ResultLine). r.answer) behind))
 
   -- the run prints these lines, takes all answers, and asks for one more
   pub record AsksForMore (lines : List RunLine) : Type 0 where
-    pub left : List Event
-    pub run : IsRunSoFar c journal.promotions false journal.events (Some (answers_to_come coming)) lines left (Some [])
+    pub journal_now : List Event
+    pub run : IsRunSoFar c journal.promotions false journal.events (Some (answers_to_come coming)) lines journal_now (Some [])
 
   -- the text of a run that is whole
   pub record IsWholeText (text : List ℕ) : Type 0 where
@@ -82,6 +82,6 @@ module _ (c : Cluster) (journal : Journal) (coming : Coming) where
   EndGets _ text = ⊥
 
   -- the run gets this end
-  pub record IsDueText (end : LiveEnd) : Type 0 where
+  pub record IsDueEnd (end : LiveEnd) : Type 0 where
     pub text : List ℕ
     pub gets : EndGets end text

@@ -14,16 +14,16 @@ use Rattle.faults.specs.declared.fault.Fault.{Fault}
 use Rattle.faults.specs.declared.fault.Fault.TheVariants.{At, NoMemory}
 use Rattle.input_reading.specs.declared.input.cause.InputCause.{InputCause}
 use Rattle.input_reading.specs.declared.input.cause.InputCause.TheVariants.{Words}
-use Rattle.live_run.specs.Followed.{bytes_of, count_lines}
+use Rattle.live_run.specs.SourceFollowed.{bytes_of, count_lines}
 use Rattle.live_run.specs.declared.head.HeadStop.{HeadStop}
 use Rattle.live_run.specs.declared.head.HeadStop.TheVariants as stop
 
 -- what a source gives as the head: its bytes, with the number of the line behind it and how many of the bytes behind it lie within the limit; the first
 -- line that can't be cut into words, and why; or a line that goes past the limit
-pub data HeadVerdict : Type 0 where
-  taken : (text : List ℕ) (next room : ℕ) → HeadVerdict
-  refused : (line : ℕ) (why : InputCause) → HeadVerdict
-  too_large : HeadVerdict
+pub data HeadFound : Type 0 where
+  taken : (text : List ℕ) (next room : ℕ) → HeadFound
+  refused : (line : ℕ) (why : InputCause) → HeadFound
+  too_large : HeadFound
 
 -- the line of these words begins the results
 abbrev pub begins_results : List (List ℕ) → Bool
@@ -35,64 +35,64 @@ begins_results (word ∷ words) = is word (codes "%results")
 pub data LineOfHead : Type 0 where
   ends_head : LineOfHead
   goes_on_behind : LineOfHead
-  has_no_words : (line : ℕ) (why : LexCause) → LineOfHead
+  isnt_cut : (line : ℕ) (why : LexCause) → LineOfHead
   passes_limit : LineOfHead
 
 -- what a line says, by its words. It is cut without memory, so that the last case never comes
 abbrev pub line_by_words : Result (List (List ℕ)) (Fault LexCause) → LineOfHead
 line_by_words (Ok words) = if begins_results words then ends_head else goes_on_behind
-line_by_words (Err (At line why)) = has_no_words line why
+line_by_words (Err (At line why)) = isnt_cut line why
 line_by_words (Err NoMemory) = passes_limit
 
 -- by its size, the number of its first physical line and its bytes
 abbrev pub line_by_size : LineStep → ℕ → List ℕ → LineOfHead
 line_by_size step.Line n raw = line_by_words (reads_line n raw)
-line_by_size step.TooLong n raw = has_no_words n LineTooLong
+line_by_size step.TooLong n raw = isnt_cut n LineTooLong
 line_by_size _ n raw = passes_limit
 
 -- by its physical lines, of which the first has this number. So many bytes of them lie within the limit, and a line may have so many without line ends
 abbrev pub line_of_head : ℕ → ℕ → ℕ → List (List ℕ) → LineOfHead
-line_of_head longest room n lines = line_by_size (line_answer room longest lines) n (concat lines)
+line_of_head room longest n lines = line_by_size (line_answer room longest lines) n (concat lines)
 
--- the verdict, by what a line says: the head that ends with the line, and the verdict of what is behind it
-abbrev pub verdict_by : LineOfHead → HeadVerdict → HeadVerdict → HeadVerdict
-verdict_by ends_head with_it behind = with_it
-verdict_by goes_on_behind with_it behind = behind
-verdict_by (has_no_words line why) with_it behind = refused line (Words why)
-verdict_by passes_limit with_it behind = too_large
+-- what is found, by what a line says: the head that ends with the line, or what is found behind the line
+abbrev pub found_by : LineOfHead → HeadFound → HeadFound → HeadFound
+found_by ends_head with_it behind = with_it
+found_by goes_on_behind with_it behind = behind
+found_by (isnt_cut line why) with_it behind = refused line (Words why)
+found_by passes_limit with_it behind = too_large
 
 -- the head of a text and some logical lines behind it, line by line: up to the first behind which it doesn't go on
-abbrev pub head_verdict : ℕ → List ℕ → ℕ → ℕ → List (List (List ℕ)) → HeadVerdict
-head_verdict longest before room n [] = taken before n room
-head_verdict longest before room n (lines ∷ more) =
-    verdict_by (line_of_head longest room n lines) (taken (before ++ concat lines) (n + length lines) (room - length (concat lines)))
-    (head_verdict longest (before ++ concat lines) (room - length (concat lines)) (n + length lines) more)
+abbrev pub head_found : ℕ → List ℕ → ℕ → ℕ → List (List (List ℕ)) → HeadFound
+head_found longest before room n [] = taken before n room
+head_found longest before room n (lines ∷ more) =
+    found_by (line_of_head room longest n lines) (taken (before ++ concat lines) (n + length lines) (room - length (concat lines)))
+    (head_found longest (before ++ concat lines) (room - length (concat lines)) (n + length lines) more)
 
 -- behind each of these lines the head goes on
 abbrev pub AllGoOnBehind : ℕ → ℕ → ℕ → List (List (List ℕ)) → Type 0
-AllGoOnBehind longest room n [] = Unit {0}
-AllGoOnBehind longest room n (lines ∷ more) =
-    (line_of_head longest room n lines ≡ goes_on_behind) × AllGoOnBehind longest (room - length (concat lines)) (n + length lines) more
+AllGoOnBehind room longest n [] = Unit {0}
+AllGoOnBehind room longest n (lines ∷ more) =
+    (line_of_head room longest n lines ≡ goes_on_behind) × AllGoOnBehind (room - length (concat lines)) longest (n + length lines) more
 
 -- the head of a text and of all bytes to come: those that a reader holds, and those that its source has left
-abbrev pub head_behind : List ℕ → Reading → List ℕ → HeadVerdict
-head_behind before reading left = head_verdict reading.longest before reading.room reading.next (raw_lines (reading.held ++ left))
+abbrev pub head_behind : List ℕ → Reading → List ℕ → HeadFound
+head_behind before reading left = head_found reading.longest before reading.room reading.next (raw_lines (reading.held ++ left))
 
 -- a text and the lines of a reader behind it
-pub record ReaderProgress : Type 0 where
+pub record ReaderSofar : Type 0 where
   pub text : List ℕ
   pub reading : Reading
 
-abbrev pub progress : List ℕ → Reading → ReaderProgress
-progress text reading = record { text = text; reading = reading }
+abbrev pub so_far : List ℕ → Reading → ReaderSofar
+so_far text reading = record { text = text; reading = reading }
 
 -- all bytes, those of the text and those to come, are as before
-abbrev pub KeepsBytes : ReaderProgress → ReaderProgress → Option (List ℕ) → Option (List ℕ) → Type 0
+abbrev pub KeepsBytes : ReaderSofar → ReaderSofar → Option (List ℕ) → Option (List ℕ) → Type 0
 KeepsBytes old new before after =
     option_map (λ (left : List ℕ). old.text ++ (old.reading.held ++ left)) before ≡ option_map (λ (left : List ℕ). new.text ++ (new.reading.held ++ left)) after
 
 -- the head of which no text is given: a line is refused, or goes past the limit. Nothing is said where the source or memory failed
-abbrev pub IsStopOf : HeadVerdict → HeadStop → Type 0
+abbrev pub IsStopOf : HeadFound → HeadStop → Type 0
 IsStopOf head (stop.Refused line why) = head ≡ refused line why
 IsStopOf head stop.TooLarge = head ≡ too_large
 IsStopOf head _ = Unit {0}
@@ -109,13 +109,13 @@ pub record HasTaken (old new : Reading) (text : List ℕ) (before after : Option
 pub record HasHeadGoneOn (old new : Reading) (text : List ℕ) (before after : Option (List ℕ)) : Type 0 where
   pub taken : HasTaken old new text before after
   pub same_size : new.longest ≡ old.longest
-  pub goes_on : IfSome after (λ left. AllGoOnBehind old.longest old.room old.next taken.lines)
+  pub goes_on : IfSome after (λ left. AllGoOnBehind old.room old.longest old.next taken.lines)
 
 -- reading stopped amid the head: behind each line that was taken whole the head goes on, and this is the text of these lines. No further line was taken
 -- whole, and what is held gives no answer yet
 pub record IsAmid (old new : Reading) (before after : Option (List ℕ)) : Type 0 where
   pub text : List ℕ
-  pub keeps : KeepsBytes (progress [] old) (progress text new) before after
+  pub keeps : KeepsBytes (so_far [] old) (so_far text new) before after
   pub gone_on : HasHeadGoneOn old new text before after
   pub none_whole : holds_line new.held ≡ false
   pub undecided : IsUndecided new.room new.longest new.held

@@ -1,8 +1,10 @@
 -- What no public clause rests on: what the code of this crate keeps and counts on the way, for its proofs alone.
-pub mod ReadLaws
-pub mod HeadSteps
 pub mod ComingSteps
+pub mod Fronts
+pub mod HeadSteps
+pub mod PlainLines
+pub mod ReadLaws
 pub mod ReadSteps
 pub mod RunEnds
-pub mod Fronts
-pub mod PlainLines
+pub mod LineFits
+pub mod WriteResults

@@ -1,7 +1,7 @@
 -- What contracts see of a writer of the lines of a run.
 use Rattle.std.specs.Prelude.{ℕ, Option, List}
 use Rattle.cluster_types.specs.declared.cluster.Cluster.{Cluster}
-use Rattle.live_run.specs.Writing.{WriterView}
+use Rattle.live_run.specs.HeldAndWritten.{WriterView}
 use Rattle.live_run.specs.declared.line_writer.LineWriter.{LineWriter}
 
 -- the cluster by whose names it writes

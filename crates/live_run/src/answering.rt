@@ -7,32 +7,32 @@ use graph_exec::{InFlight, Next, Outcomes};
 
 impl<'c, 's, S: Source> Outcomes for LineOutcomes<'c, 's, S> {
     ghost use Rattle.std.specs.Prelude.{◌≡◌, true, false, Some};
-    ghost use Rattle.live_run.specs.AtHand.{IsAtHand};
+    ghost use Rattle.live_run.specs.AnswersAtHand.{IsAtHand};
     ghost use Rattle.live_run.specs.Courses.{faults_of, has_course_ended, rest_of, stop_of, told_by, whole_of};
     ghost use Rattle.live_run.specs.declared.line_stop.LineStop.TheVariants.{ReadFault};
-    ghost use Rattle.live_run.specs.Followed.{HasFollowed, HasSaid};
-    ghost use Rattle.live_run.specs.LineSources.{outcomes_source, standing_of, outcomes_view};
-    ghost use Rattle.live_run.specs.FollowedLaws.{followed_itself, followed_said, followed_then, said_behind};
+    ghost use Rattle.live_run.specs.SourceFollowed.{HasFollowed, HasSaid};
+    ghost use Rattle.live_run.specs.LineSources.{outcomes_source, state_of, outcomes_view};
+    ghost use Rattle.live_run.specs.SourceFollowedLaws.{followed_itself, followed_said, followed_then, said_behind};
 
-    ghost rest = { λ o. rest_of (told_by (standing_of o) (S.left (outcomes_source o))) };
+    ghost rest = { λ o. rest_of (told_by (state_of o) (S.left (outcomes_source o))) };
 
-    ghost whole = { λ o. whole_of (told_by (standing_of o) (S.left (outcomes_source o))) };
+    ghost whole = { λ o. whole_of (told_by (state_of o) (S.left (outcomes_source o))) };
 
-    ghost faults = { λ o. faults_of (standing_of o) (S.faults (outcomes_source o)) };
+    ghost faults = { λ o. faults_of (state_of o) (S.faults (outcomes_source o)) };
 
     ghost asked = { λ o. o.asked };
 
-    ghost answered = { λ o. (standing_of o).lines.at.before };
+    ghost answered = { λ o. (state_of o).lines.at.before };
 
     ghost careful = { λ _. false };
 
     ghost steady = { λ _. true };
 
-    ghost over = { λ o. has_course_ended (standing_of o).course };
+    ghost over = { λ o. has_course_ended (state_of o).course };
 
-    ghost at_hand = { λ o. IsAtHand (standing_of o) };
+    ghost at_hand = { λ o. IsAtHand (state_of o) };
 
-    ghost broke = { λ o. stop_of (standing_of o) ≡ Some ReadFault };
+    ghost broke = { λ o. stop_of (state_of o) ≡ Some ReadFault };
 
     ghost agrees = { λ _ _ _ _. Unit {0} };
 

@@ -1,7 +1,7 @@
 //! Whether a result line is at hand.
 
 ghost use Rattle.std.specs.Prelude.{◌≡◌, true};
-ghost use Rattle.live_run.specs.AtHand.{HoldsResultLine};
+ghost use Rattle.live_run.specs.AnswersAtHand.{HoldsResultLine};
 ghost use Rattle.live_run.specs.Inner.PlainLines.{is_closed_line};
 
 /// Whether a line end comes, and no backslash before the first one.

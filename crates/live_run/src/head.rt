@@ -8,7 +8,7 @@ ghost use Rattle.crm_lex.specs.RawLines.{physical_lines};
 ghost use Rattle.cluster_io.specs.Readings.{Reading};
 ghost use Rattle.crm_lex.specs.Reading.{kept, reads_line};
 ghost use Rattle.faults.specs.declared.fault.Fault.TheVariants as found;
-ghost use Rattle.live_run.specs.Heads.{CanGoOn, HasHeadGoneOn, HeadVerdict, IsAmid, IsStopOf, KeepsBytes, begins_results, head_behind, line_by_words, progress, taken, verdict_by};
+ghost use Rattle.live_run.specs.Heads.{CanGoOn, HasHeadGoneOn, HeadFound, IsAmid, IsStopOf, KeepsBytes, begins_results, head_behind, line_by_words, so_far, taken, found_by};
 ghost use Rattle.live_run.specs.Inner.HeadSteps.{BringsHead, StillAmid, WhileWell, came_to, lacks_memory, stop_for};
 
 use cluster_io::{LineReader, LineStep, Source};
@@ -77,8 +77,8 @@ fn line_says<S: Source>(
     words: &mut WordBuf,
 ) -> Option<Result<(), HeadStop>>
     requires { (reading_of reader.now).number + length (physical_lines (reading_of reader.now).raw) ≤ 2 ^ 32 }
-    ensures says { (text : List ℕ) (reading : Reading) (others : HeadVerdict) → came_to result text reading others
-        ≡ verdict_by (line_by_words (reads_line (reading_of reader.now).number (reading_of reader.now).raw)) (taken text reading.next reading.room) others }
+    ensures says { (text : List ℕ) (reading : Reading) (others : HeadFound) → came_to result text reading others
+        ≡ found_by (line_by_words (reads_line (reading_of reader.now).number (reading_of reader.now).raw)) (taken text reading.next reading.room) others }
     ensures fault { result ≢ Some (Err HeadStop.ReadFault) }
     ensures memory { lacks_memory result ≡ false }
 {
@@ -102,8 +102,8 @@ fn take_line<S: Source>(
 ) -> Option<Result<(), HeadStop>>
     requires numbers { (reading_of reader.now).number + length (physical_lines (reading_of reader.now).raw) ≤ 2 ^ 32 }
     requires next { head.old.next ≡ (reading_of reader.now).number }
-    ensures says { lacks_memory result ≡ false → (text : List ℕ) (reading : Reading) (others : HeadVerdict) → came_to result text reading others
-        ≡ verdict_by (line_by_words (reads_line (reading_of reader.now).number (reading_of reader.now).raw)) (taken text reading.next reading.room) others }
+    ensures says { lacks_memory result ≡ false → (text : List ℕ) (reading : Reading) (others : HeadFound) → came_to result text reading others
+        ≡ found_by (line_by_words (reads_line (reading_of reader.now).number (reading_of reader.now).raw)) (taken text reading.next reading.room) others }
     ensures text { lacks_memory result ≡ false → head.new.text.items ≡ head.old.text.items ++ (reading_of reader.now).raw }
     ensures next { head.new.next ≡ head.old.next + length (physical_lines (reading_of reader.now).raw) }
     ensures fault { result ≢ Some (Err HeadStop.ReadFault) }
@@ -123,10 +123,10 @@ fn step<S: Source>(
 ) -> Option<Result<(), HeadStop>>
     requires can { CanGoOn (reading_of reader.old) }
     requires next { head.old.next ≡ (reading_of reader.old).next }
-    ensures brings { BringsHead result (progress head.old.text.items (reading_of reader.old)) (progress head.new.text.items (reading_of reader.new))
+    ensures brings { BringsHead result (so_far head.old.text.items (reading_of reader.old)) (so_far head.new.text.items (reading_of reader.new))
         (S.left (source_of reader.old)) (S.left (source_of reader.new)) }
     ensures keeps { lacks_memory result ≡ false
-        → KeepsBytes (progress head.old.text.items (reading_of reader.old)) (progress head.new.text.items (reading_of reader.new))
+        → KeepsBytes (so_far head.old.text.items (reading_of reader.old)) (so_far head.new.text.items (reading_of reader.new))
         (S.left (source_of reader.old)) (S.left (source_of reader.new)) }
     ensures can { WhileWell result (CanGoOn (reading_of reader.new)) }
     ensures next { head.new.next ≡ (reading_of reader.new).next }
@@ -170,7 +170,7 @@ pub fn read_head<S: Source>(
     ensures stop { IfSome (S.left (source_of reader.old)) (λ left. IfErr result (IsStopOf (head_behind [] (reading_of reader.old) left))) }
     ensures amid { IfErr result (λ why. why ≡ HeadStop.ReadFault → IsAmid (reading_of reader.old) (reading_of reader.new)
         (S.left (source_of reader.old)) (S.left (source_of reader.new))) }
-    ensures behind { IfOk result (λ head. KeepsBytes (progress [] (reading_of reader.old)) (progress head.text.items (reading_of reader.new))
+    ensures behind { IfOk result (λ head. KeepsBytes (so_far [] (reading_of reader.old)) (so_far head.text.items (reading_of reader.new))
         (S.left (source_of reader.old)) (S.left (source_of reader.new))) }
     ensures short { IfOk result (λ head. length (reading_of reader.new).held < 4096) }
     ensures within { IfOk result (λ head. length head.text.items ≤ (reading_of reader.old).room) }

@@ -1,7 +1,7 @@
 //! Text that is held back.
 
 ghost use Rattle.std.specs.Prelude.{◌≡◌, ◌+◌, ◌≤◌, ◌++◌, [], true, length, IfOk};
-ghost use Rattle.live_run.specs.Writing.{most_held};
+ghost use Rattle.live_run.specs.HeldAndWritten.{most_held};
 
 use crm_lex::NoMemory;
 use std::alloc::Global;

@@ -4,10 +4,10 @@ ghost use Rattle.std.specs.Prelude.{◌≡◌, ◌≢◌, ◌+◌, ◌≤◌, �
 ghost use Rattle.cluster_io.specs.LineReaders.{loan_of, reading_of, source_of};
 ghost use Rattle.cluster_io.specs.Streams.{Bears, Rose};
 ghost use Rattle.graph_exec.specs.Counts.{CountsAnswer, RoseByOne};
-ghost use Rattle.live_run.specs.AtHand.{IsAtHand};
-ghost use Rattle.live_run.specs.Coming.{AreReady};
+ghost use Rattle.live_run.specs.AnswersAtHand.{IsAtHand};
+ghost use Rattle.live_run.specs.AnswersToCome.{AreReady};
 ghost use Rattle.live_run.specs.Courses.{CourseAnswers, LineStays, faults_of, has_course_ended, is_reading, starting, stop_of, stops_last};
-ghost use Rattle.live_run.specs.Followed.{HasSaid};
+ghost use Rattle.live_run.specs.SourceFollowed.{HasSaid};
 ghost use Rattle.live_run.specs.Heads.{CanGoOn};
 ghost use Rattle.live_run.specs.ResultReaders.{reader_lines};
 
@@ -44,7 +44,7 @@ pub struct LineOutcomes<'c, 's, S: Source> {
 }
 
 impl<'c, 's, S: Source> LineOutcomes<'c, 's, S> {
-    ghost use Rattle.live_run.specs.LineSources.{outcomes_loan, outcomes_source, standing_of, outcomes_view};
+    ghost use Rattle.live_run.specs.LineSources.{outcomes_loan, outcomes_source, state_of, outcomes_view};
 
     /// A source of the answers that the lines of a reader give, of which the first is taken at the moment, in seconds
     /// below 2^40, and has this number: 1 of a new reader, and behind a head the one that `HeadText` gives. The reader was
@@ -59,7 +59,7 @@ impl<'c, 's, S: Source> LineOutcomes<'c, 's, S> {
         requires moment { moment < 2 ^ 40 }
         requires next { next ≡ (reading_of reader).next }
         requires reader { CanGoOn (reading_of reader) }
-        ensures standing { IfOk result (λ o. standing_of o ≡ starting names.now moment (reading_of reader.entry)) }
+        ensures standing { IfOk result (λ o. state_of o ≡ starting names.now moment (reading_of reader.entry)) }
         ensures source { IfOk result (λ o. outcomes_source o ≡ source_of reader.entry) }
         ensures same_source { IfOk result (λ o. outcomes_loan o ≡ loan_of reader.entry) }
     {
@@ -79,7 +79,7 @@ impl<'c, 's, S: Source> LineOutcomes<'c, 's, S> {
         requires moment { moment < 2 ^ 40 }
         requires next { next ≡ (reading_of reader).next }
         requires reader { CanGoOn (reading_of reader) }
-        ensures standing { standing_of result ≡ starting names.now moment (reading_of reader.entry) }
+        ensures standing { state_of result ≡ starting names.now moment (reading_of reader.entry) }
         ensures source { outcomes_source result ≡ source_of reader.entry }
         ensures same_source { outcomes_loan result ≡ loan_of reader.entry }
     {
@@ -125,14 +125,14 @@ impl<'c, 's, S: Source> LineOutcomes<'c, 's, S> {
 
     /// The line of the last answer: its first physical line, counted from 1; 0 before the first answer.
     pub fn line(&self) -> u32
-        ensures { result ≡ (standing_of self.now).line }
+        ensures { result ≡ (state_of self.now).line }
     {
         self.line
     }
 
     /// Why it failed the last time; None before it has failed.
     pub fn stop(&self) -> Option<LineStop>
-        ensures { result ≡ stop_of (standing_of self.now) }
+        ensures { result ≡ stop_of (state_of self.now) }
     {
         match self.course {
             Course::Stopped { why, .. } => Some(why),
@@ -149,7 +149,7 @@ impl<'c, 's, S: Source> LineOutcomes<'c, 's, S> {
     /// Whether the next question surely reads nothing from the source of bytes: a whole line that has words is held, or no
     /// line is read any more. It looks through the first physical line that is held.
     pub fn is_at_hand(&self) -> bool
-        ensures { result ≡ true → IsAtHand (standing_of self.now) }
+        ensures { result ≡ true → IsAtHand (state_of self.now) }
     {
         match self.course {
             Course::Reading => begins_result(self.reader.lines.held()),
@@ -159,19 +159,19 @@ impl<'c, 's, S: Source> LineOutcomes<'c, 's, S> {
 
     /// Reads on to the next answer, or to what comes in its place.
     fn read_on(&mut self) -> Next
-        requires { is_reading (standing_of self.old).course ≡ true }
-        ensures answers { CourseAnswers result (standing_of self.old) (standing_of self.new)
+        requires { is_reading (state_of self.old).course ≡ true }
+        ensures answers { CourseAnswers result (state_of self.old) (state_of self.new)
             (S.left (outcomes_source self.old)) (S.left (outcomes_source self.new)) }
         ensures said { HasSaid S.counts_only_failures (outcomes_view S.left S.faults self.old) (outcomes_view S.left S.faults self.new) result }
-        ensures line { LineStays result (standing_of self.old).line (standing_of self.new).line }
-        ensures answered { CountsAnswer result (standing_of self.old).lines.at.before (standing_of self.new).lines.at.before }
+        ensures line { LineStays result (state_of self.old).line (state_of self.new).line }
+        ensures answered { CountsAnswer result (state_of self.old).lines.at.before (state_of self.new).lines.at.before }
         ensures asked { self.new.asked ≡ self.old.asked }
-        ensures stop { result ≡ Next.Failed → is_some (stop_of (standing_of self.new)) ≡ true }
-        ensures unread { IsAtHand (standing_of self.old) → outcomes_source self.new ≡ outcomes_source self.old }
-        ensures at_hand { IsAtHand (standing_of self.old) → result ≡ Next.Failed → stop_of (standing_of self.new) ≢ Some LineStop.ReadFault }
-        ensures cause { result ≡ Next.Failed → Rose (faults_of (standing_of self.old) (S.faults (outcomes_source self.old)))
-            (faults_of (standing_of self.new) (S.faults (outcomes_source self.new))) }
-        ensures bears { Bears S.counts_only_failures ((result ≡ Next.Failed) × (stop_of (standing_of self.new) ≡ Some LineStop.ReadFault))
+        ensures stop { result ≡ Next.Failed → is_some (stop_of (state_of self.new)) ≡ true }
+        ensures unread { IsAtHand (state_of self.old) → outcomes_source self.new ≡ outcomes_source self.old }
+        ensures at_hand { IsAtHand (state_of self.old) → result ≡ Next.Failed → stop_of (state_of self.new) ≢ Some LineStop.ReadFault }
+        ensures cause { result ≡ Next.Failed → Rose (faults_of (state_of self.old) (S.faults (outcomes_source self.old)))
+            (faults_of (state_of self.new) (S.faults (outcomes_source self.new))) }
+        ensures bears { Bears S.counts_only_failures ((result ≡ Next.Failed) × (stop_of (state_of self.new) ≡ Some LineStop.ReadFault))
             (S.faults (outcomes_source self.old)) (S.faults (outcomes_source self.new)) }
         ensures same_source { outcomes_loan self.new ≡ outcomes_loan self.old }
     {
@@ -199,24 +199,24 @@ impl<'c, 's, S: Source> LineOutcomes<'c, 's, S> {
     /// `Failed` where the source of bytes failed in this call, and where the next line is refused or goes past the
     /// limit; `stop` then says which. After `is_at_hand` has said yes, it leaves the source of bytes as it is.
     pub fn ask(&mut self) -> Next
-        ensures answers { CourseAnswers result (standing_of self.old) (standing_of self.new)
+        ensures answers { CourseAnswers result (state_of self.old) (state_of self.new)
             (S.left (outcomes_source self.old)) (S.left (outcomes_source self.new)) }
         ensures said { HasSaid S.counts_only_failures (outcomes_view S.left S.faults self.old) (outcomes_view S.left S.faults self.new) result }
-        ensures line { LineStays result (standing_of self.old).line (standing_of self.new).line }
-        ensures answered { CountsAnswer result (standing_of self.old).lines.at.before (standing_of self.new).lines.at.before }
-        ensures few { (standing_of self.new).lines.at.before ≤ 10000 }
+        ensures line { LineStays result (state_of self.old).line (state_of self.new).line }
+        ensures answered { CountsAnswer result (state_of self.old).lines.at.before (state_of self.new).lines.at.before }
+        ensures few { (state_of self.new).lines.at.before ≤ 10000 }
         ensures asked { RoseByOne self.old.asked self.new.asked }
-        ensures stop { result ≡ Next.Failed → is_some (stop_of (standing_of self.new)) ≡ true }
-        ensures unread { IsAtHand (standing_of self.old) → outcomes_source self.new ≡ outcomes_source self.old }
-        ensures at_hand { IsAtHand (standing_of self.old) → result ≡ Next.Failed → stop_of (standing_of self.new) ≢ Some LineStop.ReadFault }
-        ensures over { has_course_ended (standing_of self.old).course ≡ true → has_course_ended (standing_of self.new).course ≡ true }
+        ensures stop { result ≡ Next.Failed → is_some (stop_of (state_of self.new)) ≡ true }
+        ensures unread { IsAtHand (state_of self.old) → outcomes_source self.new ≡ outcomes_source self.old }
+        ensures at_hand { IsAtHand (state_of self.old) → result ≡ Next.Failed → stop_of (state_of self.new) ≢ Some LineStop.ReadFault }
+        ensures over { has_course_ended (state_of self.old).course ≡ true → has_course_ended (state_of self.new).course ≡ true }
 
         // How often it and its source have failed.
-        ensures failures { faults_of (standing_of self.old) (S.faults (outcomes_source self.old))
-            ≤ faults_of (standing_of self.new) (S.faults (outcomes_source self.new)) }
-        ensures cause { result ≡ Next.Failed → Rose (faults_of (standing_of self.old) (S.faults (outcomes_source self.old)))
-            (faults_of (standing_of self.new) (S.faults (outcomes_source self.new))) }
-        ensures bears { Bears S.counts_only_failures ((result ≡ Next.Failed) × (stop_of (standing_of self.new) ≡ Some LineStop.ReadFault))
+        ensures failures { faults_of (state_of self.old) (S.faults (outcomes_source self.old))
+            ≤ faults_of (state_of self.new) (S.faults (outcomes_source self.new)) }
+        ensures cause { result ≡ Next.Failed → Rose (faults_of (state_of self.old) (S.faults (outcomes_source self.old)))
+            (faults_of (state_of self.new) (S.faults (outcomes_source self.new))) }
+        ensures bears { Bears S.counts_only_failures ((result ≡ Next.Failed) × (stop_of (state_of self.new) ≡ Some LineStop.ReadFault))
             (S.faults (outcomes_source self.old)) (S.faults (outcomes_source self.new)) }
         ensures same_source { outcomes_loan self.new ≡ outcomes_loan self.old }
     {

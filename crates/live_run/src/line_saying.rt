@@ -4,7 +4,8 @@ ghost use Rattle.std.specs.Prelude.{◌≡◌, ◌≢◌, ◌+◌, ◌<◌, ◌�
 ghost use Rattle.crm_lex.specs.RawLines.{physical_lines};
 ghost use Rattle.crm_lex.specs.Reading.{kept};
 ghost use Rattle.faults.specs.declared.fault.Fault.TheVariants as found;
-ghost use Rattle.live_run.specs.Saying.{SaidFits, answer_says, line_says, refused_for, words_say};
+ghost use Rattle.live_run.specs.LineSays.{answer_says, line_says, refused_for, words_say};
+ghost use Rattle.live_run.specs.Inner.LineFits.{SaidFits};
 ghost use Rattle.live_run.specs.declared.line_stop.LineCause.TheVariants as of_line;
 
 use crate::line_meaning::Said;

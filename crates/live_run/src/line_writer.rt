@@ -6,7 +6,8 @@ ghost use Rattle.cluster_types.specs.declared.run.RunLine.TheVariants as told;
 ghost use Rattle.cluster_types.specs.Texts as texts;
 ghost use Rattle.cluster_types.specs.Valid.{IsValid, KeepsLimits};
 ghost use Rattle.live_run.specs.LineCauses.{line_refusal_text};
-ghost use Rattle.live_run.specs.Writing.{IsSameSink, Puts, PutsLast, heard_of, most_held};
+ghost use Rattle.live_run.specs.HeldAndWritten.{IsSameSink, Puts, PutsLast, most_held};
+ghost use Rattle.live_run.specs.Inner.WriteResults.{heard_of};
 ghost use Rattle.trace_text.specs.RunLines.{HasShortNames};
 
 use crate::held_text::HeldText;

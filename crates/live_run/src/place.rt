@@ -1,7 +1,8 @@
 //! The place of a result line among the others.
 
 ghost use Rattle.std.specs.Prelude.{◌≡◌, ◌+◌, ◌<◌, ◌≤◌, ◌^◌};
-ghost use Rattle.live_run.specs.Saying.{SaidFits, place_behind_said};
+ghost use Rattle.live_run.specs.LineSays.{place_behind_said};
+ghost use Rattle.live_run.specs.Inner.LineFits.{SaidFits};
 
 use crate::line_meaning::Said;
 

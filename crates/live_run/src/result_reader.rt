@@ -4,11 +4,12 @@ ghost use Rattle.std.specs.Prelude.{◌≡◌, ◌≢◌, ◌+◌, ◌<◌, ◌�
 ghost use Rattle.cluster_io.specs.LineReaders.{reading_of};
 ghost use Rattle.cluster_io.specs.Streams.{Bears};
 ghost use Rattle.crm_lex.specs.RawLines.{physical_lines};
-ghost use Rattle.live_run.specs.AtHand.{HoldsResultLine};
-ghost use Rattle.live_run.specs.Coming.{AreReady};
+ghost use Rattle.live_run.specs.AnswersAtHand.{HoldsResultLine};
+ghost use Rattle.live_run.specs.AnswersToCome.{AreReady};
 ghost use Rattle.live_run.specs.Inner.ComingSteps.{Brings, answers_in, reads_on, is_stop_last, said_came};
 ghost use Rattle.live_run.specs.Inner.ReadSteps.{ReadUntil};
-ghost use Rattle.live_run.specs.Saying.{SaidFits, line_says, place_behind_said};
+ghost use Rattle.live_run.specs.LineSays.{line_says, place_behind_said};
+ghost use Rattle.live_run.specs.Inner.LineFits.{SaidFits};
 
 use crate::line_meaning::Said;
 use crate::line_result::Came;

@@ -6,12 +6,12 @@ ghost use Rattle.cluster_types.specs.declared.journal.Answer.{Answer as AnswerOf
 ghost use Rattle.cluster_types.specs.declared.journal.Journal.{Journal as JournalOf};
 ghost use Rattle.cluster_types.specs.declared.run.RunLine.{RunLine as LineOf};
 ghost use Rattle.cluster_types.specs.Runs.{RunStanding, due, Runs};
-ghost use Rattle.live_run.specs.Coming.{Coming, Lines, coming_of};
+ghost use Rattle.live_run.specs.AnswersToCome.{Coming, Lines, coming_of};
 ghost use Rattle.live_run.specs.Courses.{answers_to_come};
 ghost use Rattle.live_run.specs.declared.line_stop.LineStop.TheVariants.{ReadFault};
 ghost use Rattle.live_run.specs.declared.live_end.LiveEnd.{LiveEnd as LiveEndOf};
 ghost use Rattle.live_run.specs.Ends.{EndGets, run_lines_text};
-ghost use Rattle.run_safety.specs.Followed.{IsFront};
+ghost use Rattle.run_safety.specs.TwoRuns.{IsFront};
 
 /// A run gets one end and one text.
 pub fn ends_are_unique()

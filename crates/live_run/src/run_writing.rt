@@ -4,9 +4,10 @@ ghost use Rattle.std.specs.Prelude.{◌≡◌, ◌≤◌, [], length, IsErr};
 ghost use Rattle.cluster_io.specs.Streams.{Bears};
 ghost use Rattle.cluster_types.specs.Texts as texts;
 ghost use Rattle.cluster_types.specs.Valid.{KeepsLimits};
-ghost use Rattle.graph_exec.specs.Telling.{ReasonsHaveNames, plan_lines};
+ghost use Rattle.graph_exec.specs.WatcherLines.{ReasonsHaveNames, plan_lines};
 ghost use Rattle.live_run.specs.LineCauses.{line_refusal_text};
-ghost use Rattle.live_run.specs.Writing.{Puts, PutsBehind, PutsLast, PutsLines, most_held};
+ghost use Rattle.live_run.specs.HeldAndWritten.{Puts, PutsLast, most_held};
+ghost use Rattle.live_run.specs.Inner.WriteResults.{PutsBehind, PutsLines};
 ghost use Rattle.trace_text.specs.RunLines.{HasName, HasShortNames, lent_line};
 
 use crate::held_text::HeldText;

@@ -8,13 +8,13 @@ ghost use Rattle.cluster_types.specs.Safety.{IsAtRest};
 ghost use Rattle.cluster_types.specs.Texts.{run_line};
 ghost use Rattle.cluster_types.specs.Valid.{IsValid};
 ghost use Rattle.live_run.specs.Courses.{starting, stop_of};
-ghost use Rattle.live_run.specs.LineSources.{outcomes_loan, outcomes_source, standing_of};
+ghost use Rattle.live_run.specs.LineSources.{outcomes_loan, outcomes_source, state_of};
 ghost use Rattle.live_run.specs.declared.live_end.LiveEnd.{LiveEnd as LiveEndOf};
-ghost use Rattle.live_run.specs.Ends.{IsDueText};
+ghost use Rattle.live_run.specs.Ends.{IsDueEnd};
 ghost use Rattle.live_run.specs.declared.line_stop.LineStop.TheVariants.{ReadFault};
 ghost use Rattle.live_run.specs.LineWriters.{writer_held, writer_cluster, writer_loan, sink_of};
-ghost use Rattle.live_run.specs.Writing.{IsSameSink};
-ghost use Rattle.live_run.specs.Reached.{Reaches, results_behind};
+ghost use Rattle.live_run.specs.HeldAndWritten.{IsSameSink};
+ghost use Rattle.live_run.specs.RunReached.{Reaches, results_behind};
 ghost use Rattle.live_run.specs.Inner.RunEnds.{EndsCut, EndsDone, EndsLines, EndsWithoutMemory};
 
 use crate::live_end::LiveEnd;
@@ -56,7 +56,7 @@ fn end_of_cut<S: Source, W: Sink>(
     outcomes: &LineOutcomes<'_, '_, S>,
     writer: &mut LineWriter<'_, '_, W>,
 ) -> LiveEnd
-    ensures text { EndsCut (writer_held writer.old) (run_line (writer_cluster writer.old) (told.Unexpected (standing_of outcomes.now).line)) result
+    ensures text { EndsCut (writer_held writer.old) (run_line (writer_cluster writer.old) (told.Unexpected (state_of outcomes.now).line)) result
         (W.written (sink_of writer.old)) (W.written (sink_of writer.new)) }
     ensures bears { Bears W.counts_only_failures (result ≡ LiveEnd.WriteFault) (W.faults (sink_of writer.old)) (W.faults (sink_of writer.new)) }
     ensures same_sink { IsSameSink (writer_loan writer.old) (writer_loan writer.new) }
@@ -73,7 +73,7 @@ fn end_of_lines<S: Source, W: Sink>(
     outcomes: &LineOutcomes<'_, '_, S>,
     writer: &mut LineWriter<'_, '_, W>,
 ) -> LiveEnd
-    ensures text { EndsLines (writer_held writer.old) (stop_of (standing_of outcomes.now)) result (W.written (sink_of writer.old)) (W.written (sink_of writer.new)) }
+    ensures text { EndsLines (writer_held writer.old) (stop_of (state_of outcomes.now)) result (W.written (sink_of writer.old)) (W.written (sink_of writer.new)) }
     ensures bears { Bears W.counts_only_failures (result ≡ LiveEnd.WriteFault) (W.faults (sink_of writer.old)) (W.faults (sink_of writer.new)) }
     ensures same_sink { IsSameSink (writer_loan writer.old) (writer_loan writer.new) }
 {
@@ -101,11 +101,11 @@ fn run_to_end<S: Source, W: Sink>(
     requires valid { IsValid cluster.now }
     requires at_rest { IsAtRest journal.events }
     requires moment { moment_of journal.events < 2 ^ 40 }
-    requires fresh { standing_of outcomes.old
-        ≡ starting cluster.now (moment_of journal.events) (standing_of outcomes.old).lines.reading }
+    requires fresh { state_of outcomes.old
+        ≡ starting cluster.now (moment_of journal.events) (state_of outcomes.old).lines.reading }
     requires names { writer_cluster writer.old ≡ cluster.now }
     requires empty { writer_held writer.old ≡ [] }
-    ensures reaches { IfSome (S.left (outcomes_source outcomes.old)) (λ left. Reaches cluster.now journal (standing_of outcomes.old).lines.reading left
+    ensures reaches { IfSome (S.left (outcomes_source outcomes.old)) (λ left. Reaches cluster.now journal (state_of outcomes.old).lines.reading left
         (S.left (outcomes_source outcomes.new)) (W.written (sink_of writer.old)) (W.written (sink_of writer.new)) result) }
     ensures at_end { result ≡ LiveEnd.Done → IfSome (S.left (outcomes_source outcomes.new)) (λ left. left ≡ []) }
     ensures reads { Bears S.counts_only_failures (result ≡ LiveEnd.ReadFault) (S.faults (outcomes_source outcomes.old)) (S.faults (outcomes_source outcomes.new)) }
@@ -153,16 +153,16 @@ pub fn run_live<S: Source, W: Sink>(
     requires valid { IsValid cluster.now }
     requires at_rest { IsAtRest journal.events }
     requires moment { moment_of journal.events < 2 ^ 40 }
-    requires fresh { standing_of outcomes.old
-        ≡ starting cluster.now (moment_of journal.events) (standing_of outcomes.old).lines.reading }
+    requires fresh { state_of outcomes.old
+        ≡ starting cluster.now (moment_of journal.events) (state_of outcomes.old).lines.reading }
 
     // Where the source of bytes tells what it has left: what each end says of the text, of what was written and of what was read; and which end it is,
     // unless memory, a read or a write failed.
-    ensures reaches { IfSome (S.left (outcomes_source outcomes.old)) (λ left. Reaches cluster.now journal (standing_of outcomes.old).lines.reading left
+    ensures reaches { IfSome (S.left (outcomes_source outcomes.old)) (λ left. Reaches cluster.now journal (state_of outcomes.old).lines.reading left
         (S.left (outcomes_source outcomes.new)) (W.written out.old) (W.written out.new) result) }
     ensures complete { IfSome (S.left (outcomes_source outcomes.old)) (λ left. ¬ Rose (S.faults (outcomes_source outcomes.old)) (S.faults (outcomes_source outcomes.new))
         → ¬ Rose (W.faults out.old) (W.faults out.new) → result ≢ LiveEnd.NoMemory
-        → (due : LiveEndOf) → (result ≡ due) ↔ IsDueText cluster.now journal (results_behind cluster.now journal (standing_of outcomes.old).lines.reading left) due) }
+        → (due : LiveEndOf) → (result ≡ due) ↔ IsDueEnd cluster.now journal (results_behind cluster.now journal (state_of outcomes.old).lines.reading left) due) }
     ensures at_end { result ≡ LiveEnd.Done → IfSome (S.left (outcomes_source outcomes.new)) (λ left. left ≡ []) }
 
     // A fault comes only where its count rose, and the first failure ends the call: of a count that rises with failures alone a fault is one failure more, and any

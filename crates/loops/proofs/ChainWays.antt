@@ -2,7 +2,7 @@
 use Rattle.std.proofs.Common.{◌≡◌, ◌+◌, ◌*◌, ◌==◌, ℕ, suc, zero, Bool, true, false, List, [], ◌∷◌, length, map, filter, cond, fold, max, refl, sym, ◌∙◌, ap, inl, inr, Contains}
 use Rattle.edges.specs.declared.edge.Edge.{Edge}
 use Rattle.edges.specs.Loops.{HasNoLoop as NoLoopOfEdges}
-use Rattle.edges.specs.Longest.{longest, longest_within}
+use Rattle.edges.specs.LongestChains.{longest, longest_within}
 use Rattle.edges.proofs.Paths.{loop_or_none}
 use Rattle.cluster_types.specs.declared.cluster.Cluster.{Cluster}
 use Rattle.cluster_types.specs.Numbers.{StepsHaveNoLoop, Link, StepOf, chain_within, is_same_step, links, rank}

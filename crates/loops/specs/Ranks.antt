@@ -10,7 +10,7 @@ use Rattle.cluster_types.specs.Precedence.{is_migrating}
 abbrev pub links_into : Cluster → StepOf → List Link
 links_into c s = filter (λ l. is_same_step l.after s) (links c)
 
--- each step is one above the highest of those that a link has before it
+-- each step is one above the highest of those that a link has before it, or 0 where none is
 abbrev pub IsRanking : Cluster → (StepOf → ℕ) → Type 0
 IsRanking c height = (s : StepOf) → height s ≡ fold max 0 (map (λ l. height l.before + 1) (links_into c s))
 

@@ -7,7 +7,7 @@ use Rattle.std.proofs.lemmas.Bool.{false_from_ne_true}
 use Rattle.std.proofs.lemmas.List.{get_or-map, get_or-take, length-map, length-take-le, map-append, take_more}
 use Rattle.crm_lex.specs.Names.{is}
 use Rattle.indexmap.specs.IndexSet.{insert_key}
-use Rattle.names.specs.Sets.{with_name}
+use Rattle.names.specs.Inner.Sets.{with_name}
 
 absent : (names : List (List ℕ)) (name : List ℕ) → ((k : ℕ) → k < length names → get_or names k name ≢ name) → list_any (is name) names ≡ false
 absent [] name h = refl

@@ -1,8 +1,6 @@
 -- Sets of names in first-seen order.
-use Rattle.std.specs.Prelude.{◌≡◌, ℕ, List, [], ◌∷◌, ◌++◌, map, if◌then◌else◌}
-use Rattle.std.specs.List.{list_any}
+use Rattle.std.specs.Prelude.{◌≡◌, ℕ, List, map}
 use Rattle.std.specs.Borrow.{Bor}
-use Rattle.crm_lex.specs.Names.{is}
 use Rattle.cluster_types.specs.declared.cluster.Cluster.{Cluster}
 use Rattle.cluster_types.specs.declared.leaf.Leaf.{Leaf}
 use Rattle.cluster_types.specs.declared.node.Node.{Node}
@@ -12,10 +10,6 @@ use Rattle.indexmap.specs.IndexSet.{IndexSet}
 -- the names that a set borrows, in its order
 abbrev pub borrowed_names : {S : Type 0} → IndexSet (Bor (List ℕ)) S → List (List ℕ)
 borrowed_names set = map (λ (name : Bor (List ℕ)). name.now) set.keys
-
--- one more name goes last, if it isn't one of them
-abbrev pub with_name : List (List ℕ) → List ℕ → List (List ℕ)
-with_name names name = if list_any (is name) names then names else names ++ name ∷ []
 
 abbrev pub node_names : List Node → List (List ℕ)
 node_names nodes = map (λ (node : Node). node.name) nodes

@@ -4,7 +4,8 @@ ghost use Rattle.std.specs.Prelude.{◌≡◌, ◌≢◌, ◌<◌, ◌≤◌, Al
 ghost use Rattle.cluster_types.specs.declared.leaf.Leaf.{Leaf as LeafOf};
 ghost use Rattle.cluster_types.specs.declared.node.Node.{Node as NodeOf};
 ghost use Rattle.crm_lex.specs.Names.{is};
-ghost use Rattle.names.specs.Sets.{leaf_names, borrowed_names, node_names, with_name};
+ghost use Rattle.names.specs.Sets.{leaf_names, borrowed_names, node_names};
+ghost use Rattle.names.specs.Inner.Sets.{with_name};
 
 use cluster_types::{Leaf, Node};
 use faults::NoMemory;

@@ -8,7 +8,7 @@ use Rattle.cluster_types.specs.declared.rules.Colocation.{Colocation}
 use Rattle.cluster_types.specs.Choice.{is_dependent, is_mandatory, is_primary, is_separation}
 use Rattle.cluster_types.specs.Tables.{Targets, holds_role}
 use Rattle.placement.specs.Tests.{has_primary, keeps_apart}
-use Rattle.placement.specs.Inner.Allowed.{allows, is_strict}
+use Rattle.placement.specs.Inner.AllowedNodes.{allows, is_strict}
 
 free : (m s d p h k : Bool) → (m && d || s && (d || p)) ≡ false → ((not (m && d) || h) && (not s || not (d && h) && not (p && k))) ≡ true
 free true s true p h k e = cc

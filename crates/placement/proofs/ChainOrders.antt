@@ -6,7 +6,7 @@ use Rattle.std.proofs.lemmas.List.{get_or_default}
 use Rattle.std.proofs.lemmas.List.Sorted.{Contains-permutation, IsPermutation-sym}
 use Rattle.edges.specs.declared.edge.Edge.{Edge}
 use Rattle.edges.specs.Loops.{EndsWithin, HasNoLoop}
-use Rattle.edges.specs.Longest.{longest}
+use Rattle.edges.specs.LongestChains.{longest}
 use Rattle.edges.proofs.Longest.{heights_rise, longest_are_heights}
 use Rattle.placement.specs.ChainOrder.{AreEdgesInOrder}
 

@@ -20,14 +20,14 @@ use Rattle.cluster_types.specs.Decisions.{leaf_of}
 use Rattle.cluster_types.specs.NodeStates.{is_usable}
 use Rattle.cluster_types.specs.Rights.{rights_of}
 use Rattle.cluster_types.specs.Tables.{Targets, load_of}
-use Rattle.cluster_types.specs.Unpacked.{states_of}
+use Rattle.cluster_types.specs.UnpackedStates.{states_of}
 use Rattle.plan_laws.proofs.Picked.{picked_are_first}
 use Rattle.plan_laws.proofs.FewChosen.{chosen_one_way}
 use Rattle.placement.specs.Scores.{scores_of}
 use Rattle.placement.proofs.OwnOfStates.{from-zero}
 use Rattle.placement.proofs.TableOfStates.{total-is}
 use Rattle.placement.specs.Inner.Picks.{ArePicked}
-use Rattle.placement.specs.Reads.{is_candidate_in, total_in}
+use Rattle.placement.specs.Inner.Reads.{is_candidate_in, total_in}
 use Rattle.placement.specs.Steps.{Chooses}
 use Rattle.placement.proofs.ReadOfStates.{open-is}
 
@@ -72,7 +72,7 @@ module _ (c : Cluster) (es : List Event) (ps : List Promotion) (table : Targets)
     pub candidate-is : (n : ℕ) → n < length c.nodes → is_candidate_in c (states_of c es ps) (rights_of c es) table d on_each n ≡ is_candidate c es ps table d n
     candidate-is n low =
         let allowed = has_primaries c table d n && is_apart c table d n in
-        ap (λ b. (b && allowed) && lanes.is_candidate_node on_each n) (open-is c es ps d n leaf low table)
+        ap (λ b. (b && allowed) && lanes.has_enough on_each n) (open-is c es ps d n leaf low table)
         ∙ (ap (λ b. ((is_usable c n es && is_permitted c es d n && is_placed_for table d n) && allowed) && b)
         (ap (λ z. not (is_negative z)) (total-at n low) ∙ from-zero (total_on c es ps table d n))
         ∙ ordered (is_usable c n es) (is_permitted c es d n) (is_placed_for table d n) (has_primaries c table d n) (is_apart c table d n)

@@ -22,7 +22,7 @@ use Rattle.cluster_types.specs.Tables.{Targets, holds_role, is_in_scope, is_prom
 use Rattle.cluster_types.proofs.LeastSets.{held-least}
 use Rattle.cluster_types.proofs.TableCells.{promoted_somewhere}
 use Rattle.plan_laws.proofs.MadeOnes.{never_both}
-use Rattle.placement.specs.declared.held.dependencies.Dependency.{Dependency}
+use Rattle.placement.specs.declared.held_targets.dependencies.Dependency.{Dependency}
 use Rattle.placement.specs.Inner.Dependencies.{dependencies_by, from_colocation, from_order, may_hold_back}
 use Rattle.placement.specs.Inner.Taking.{IsRuleSettled, has_its_primary}
 use Rattle.placement.proofs.Lacking.{lacked, not_both}
@@ -70,7 +70,7 @@ module _ (c : Cluster) (es : List Event) (chosen left : Targets) (is : IsLeft c 
         = lacked (length c.nodes) left rule n may.within (λ m low scope. missing o.first (role_given o.first_op) m (lacks m low (scoped o n m scope))) in
         has_gone left o.then_leaf (role_given o.then_op) n
         (not_both (holds_role left rule.dependent rule.dependent_role n) (has_its_primary (length c.nodes) left rule n)
-        (settled rule (order_there c es pins are o may.present holds may.managed) n may.within) none)
+        (settled rule (order_there c es pins are o may.present holds may.not_pinned) n may.within) none)
 
     by_a_colocation : (col : Colocation) (n : ℕ) → ColocationCanHoldBack c es chosen col n → LacksPrimary c es chosen (HasGone left) col n
         → HasGone left (decision_of col.dependent col.dependent_role) n
@@ -80,7 +80,7 @@ module _ (c : Cluster) (es : List Event) (chosen left : Targets) (is : IsLeft c 
         = missing col.primary col.primary_role n lacks in
         has_gone left col.dependent col.dependent_role n
         (not_both (holds_role left rule.dependent rule.dependent_role n) (has_its_primary (length c.nodes) left rule n)
-        (settled rule (colocation_there c es pins are col may.present may.mandatory may.managed) n may.within) none)
+        (settled rule (colocation_there c es pins are col may.present may.mandatory may.not_pinned) n may.within) none)
 
     closed : IsClosedUnderHolding c es chosen (HasGone left)
     closed = record {

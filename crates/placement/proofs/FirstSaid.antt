@@ -11,7 +11,8 @@ use Rattle.cluster_types.specs.declared.cluster.Cluster.{Cluster}
 use Rattle.cluster_types.specs.declared.journal.Promotion.{Promotion}
 use Rattle.cluster_types.proofs.TableCells.{ordered, same_place}
 use Rattle.cluster_types.specs.Terms.{promotion_score}
-use Rattle.placement.specs.Promotions.{AreSaid, is_vacant, score_said_of}
+use Rattle.placement.specs.Promotions.{AreSaid, score_said_of}
+use Rattle.placement.specs.Inner.Promotions.{is_vacant}
 
 -- the first stands; without one the new one counts if it is of the cell
 abbrev first_or : Option ℤ → Bool → ℤ → Option ℤ

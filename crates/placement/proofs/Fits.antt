@@ -5,7 +5,7 @@ use Rattle.std.specs.List.{list_any, range_with_len}
 use Rattle.std.proofs.lemmas.List.FromFn.{get_or-map-range_with_len}
 use Rattle.lemmas.proofs.Ranges.{range-more}
 use Rattle.lemmas.proofs.Searches.{any-more}
-use Rattle.score.specs.Choice.{is_candidate_node}
+use Rattle.score.specs.Choice.{has_enough}
 use Rattle.score.specs.Total.{total_of}
 
 -- one number more
@@ -14,6 +14,6 @@ any-next p n = ap (list_any p) (range-more n) ∙ any-more p (range_with_len 0 n
 
 -- whether the total of a node is 0 or more, by its terms
 pub candidate-is : (nodes : ℕ) (terms : ℕ → List ℤ) (n : ℕ) → n < nodes
-    → is_candidate_node (map (λ k. total_of (terms k)) (range_with_len 0 nodes)) n ≡ not (is_negative (total_of (terms n)))
+    → has_enough (map (λ k. total_of (terms k)) (range_with_len 0 nodes)) n ≡ not (is_negative (total_of (terms n)))
 candidate-is nodes terms n low =
     ap (λ z. not (is_negative z)) (get_or-map-range_with_len (λ k. total_of (terms k)) 0 nodes n n (pos 0) low (omega arith))

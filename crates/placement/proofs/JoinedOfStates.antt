@@ -10,10 +10,10 @@ use Rattle.cluster_types.specs.declared.journal.Event.{Event}
 use Rattle.cluster_types.specs.declared.journal.Promotion.{Promotion}
 use Rattle.cluster_types.specs.NodeStates.{is_usable}
 use Rattle.cluster_types.specs.Terms.{is_tied, has_node_left, lenders, own_terms, terms_of, with_lender}
-use Rattle.cluster_types.specs.Unpacked.{states_of}
+use Rattle.cluster_types.specs.UnpackedStates.{states_of}
 use Rattle.placement.specs.Inner.LendingRows.{leaves_a_node_by, with_lender_by}
-use Rattle.placement.specs.OwnRows.{terms_by}
-use Rattle.placement.specs.Usable.{is_usable_by}
+use Rattle.placement.specs.Inner.OwnRows.{terms_by}
+use Rattle.placement.specs.UsableNodes.{is_usable_by}
 use Rattle.placement.proofs.OwnOfStates.{from-zero, own-is, usable-is}
 
 -- all numbers of a list are below a bound

@@ -14,14 +14,14 @@ use Rattle.cluster_types.specs.Decisions.{Key, greater_key, greatest_of, is_acti
 use Rattle.cluster_types.specs.Fields.{priority}
 use Rattle.cluster_types.specs.NodeStates.{is_usable}
 use Rattle.cluster_types.specs.Terms.{base}
-use Rattle.cluster_types.specs.Unpacked.{states_of}
+use Rattle.cluster_types.specs.UnpackedStates.{states_of}
 use Rattle.cluster_types.proofs.StatesKept.{cell_kept}
 use Rattle.placement.specs.Scores.{score_in, scores_of}
-use Rattle.placement.specs.Usable.{is_usable_by}
+use Rattle.placement.specs.UsableNodes.{is_usable_by}
 use Rattle.placement.proofs.OwnOfStates.{usable-is}
 use Rattle.placement.proofs.TableOfStates.{total-is}
 use Rattle.placement.specs.Inner.DecisionLists.{is_active_by_cell, compared_key, totals_where_by}
-use Rattle.placement.specs.Inner.Effective.{effective_in}
+use Rattle.placement.specs.Inner.EffectiveKeys.{effective_in}
 use Rattle.placement.proofs.Alike.{map-on}
 
 module _ (c : Cluster) (es : List Event) (ps : List Promotion) (d : Decision) (leaf : leaf_of d < length c.leaves) where

@@ -7,7 +7,7 @@ use Rattle.lemmas.proofs.Members.{of_range}
 use Rattle.lemmas.proofs.Ranges.{some_in_range}
 use Rattle.cluster_types.specs.Tables.{Targets, holds_role}
 use Rattle.plan_laws.proofs.MadeOnes.{never_both}
-use Rattle.placement.specs.declared.held.dependencies.Dependency.{Dependency}
+use Rattle.placement.specs.declared.held_targets.dependencies.Dependency.{Dependency}
 use Rattle.placement.specs.Inner.Taking.{has_its_primary, is_anywhere}
 
 pub not_both : (a b : Bool) → a && not b ≡ false → b ≡ false → a ≡ false

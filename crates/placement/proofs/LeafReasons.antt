@@ -30,7 +30,7 @@ use Rattle.plan_laws.proofs.HeldReason as held_rule
 use Rattle.plan_laws.proofs.MadeOnes.{never_both}
 use Rattle.plan_laws.proofs.TablesWithin.{StaysWithin}
 use Rattle.placement.specs.Inner.Dependencies.{of_colocation, of_order}
-use Rattle.placement.specs.Reads.{is_fail_stopped_in}
+use Rattle.placement.specs.Inner.Reads.{is_fail_stopped_in}
 use Rattle.placement.specs.Inner.Reasoning.{first_colocation, first_target_node, first_order, has_target, held_by, holds_back, id_of, or_held, plain_by, reason_by, reason_in}
 use Rattle.placement.proofs.EndedCells.{ended, held_gone, rule_of}
 use Rattle.placement.proofs.FirstFound.{Least, finds_none, found_first, found_least, found_none}

@@ -19,7 +19,7 @@ use Rattle.cluster_types.specs.Precedence.{is_mandatory_order, is_giving, role_g
 use Rattle.cluster_types.specs.Tables.{Targets, holds_role, is_in_scope}
 use Rattle.cluster_types.proofs.OpLaws.{of_kind}
 use Rattle.plan_laws.proofs.MadeOnes.{never_both}
-use Rattle.placement.specs.declared.held.dependencies.Dependency.{Dependency}
+use Rattle.placement.specs.declared.held_targets.dependencies.Dependency.{Dependency}
 use Rattle.placement.specs.Inner.Dependencies.{dependencies_by, from_colocation, from_order, may_hold_back}
 use Rattle.placement.specs.Inner.Taking.{TakenAway, has_its_primary, none_yet, one_more, takes, without}
 use Rattle.placement.proofs.Lacking.{lacking}
@@ -47,7 +47,7 @@ module _ (c : Cluster) (es : List Event) (pins : List (Option Pin)) (are : pins 
         let none : has_its_primary (length c.nodes) left rule n ≡ false
         = not-true (has_its_primary (length c.nodes) left rule n) (later (holds_role left rule.dependent rule.dependent_role n) (not (has_its_primary (length c.nodes) left rule n)) taken) in
         by_colocation col n
-        (record { present = among; mandatory = mandatory; managed = free; within = lt; chosen = is.within col.dependent col.dependent_role n there })
+        (record { present = among; mandatory = mandatory; not_pinned = free; within = lt; chosen = is.within col.dependent col.dependent_role n there })
         (λ was. is.held col.primary col.primary_role n was (lacking (length c.nodes) left rule n none n lt (λ e. refl)))
 
     by_an_order : (o : Order) → Contains c.orders o → may_hold_back o ≡ true → is_pinned c es o.then_leaf ≡ false
@@ -64,7 +64,7 @@ module _ (c : Cluster) (es : List Event) (pins : List (Option Pin)) (are : pins 
           mandatory = of_kind o.kind (sooner (is_mandatory_order o.kind) (is_giving o.first_op) two);
           first_gives = later (is_mandatory_order o.kind) (is_giving o.first_op) two;
           then_gives = later (is_mandatory_order o.kind && is_giving o.first_op) (is_giving o.then_op) holds;
-          managed = free;
+          not_pinned = free;
           within = lt;
           chosen = is.within o.then_leaf (role_given o.then_op) n there;
         })

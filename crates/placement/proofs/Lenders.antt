@@ -8,7 +8,8 @@ use Rattle.cluster_types.specs.declared.cluster.Cluster.{Cluster}
 use Rattle.cluster_types.specs.declared.states.States.{States}
 use Rattle.cluster_types.specs.Terms.{is_tied}
 use Rattle.placement.specs.Inner.LendingRows.{leaves_a_node_by, with_lender_by, joined_below}
-use Rattle.placement.specs.OwnRows.{own_by, terms_by, own_size, size_below}
+use Rattle.placement.specs.OwnRows.{own_by}
+use Rattle.placement.specs.Inner.OwnRows.{terms_by, own_size, size_below}
 use Rattle.cluster_types.specs.Valid.{KeepsLimits}
 use Rattle.placement.specs.Rows.{few}
 use Rattle.placement.proofs.OwnTerms.{small-own}

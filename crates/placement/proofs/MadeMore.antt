@@ -10,7 +10,7 @@ use Rattle.cluster_types.specs.Choice.{after_decision}
 use Rattle.cluster_types.specs.Plans.{with_totals}
 use Rattle.cluster_types.specs.Tables.{Targets}
 use Rattle.plan_laws.proofs.MoreDecisions.{decided_by, table_more, totals_more}
-use Rattle.placement.specs.Steps.{AreMade, IsMade}
+use Rattle.placement.specs.Inner.Steps.{AreMade, IsMade}
 
 module _ (c : Cluster) (es : List Event) (ps : List Promotion) (start : Targets) where
   behind : (ds : List Decision) (d : Decision) (table after : Targets) (decided longer : List Decided) (turn : Decided) → AreMade c es ps start ds table decided

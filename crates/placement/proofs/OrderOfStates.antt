@@ -10,7 +10,7 @@ use Rattle.cluster_types.specs.declared.placement.Pin.{Pin}
 use Rattle.cluster_types.specs.declared.states.States.{States}
 use Rattle.cluster_types.specs.Decisions.{Decides, IsMadeNext, Key, all_made, decisions, effective_key, is_less, is_place, is_ready, key_of, leaf_of}
 use Rattle.cluster_types.specs.Pins.{pin_of}
-use Rattle.cluster_types.specs.Unpacked.{states_of}
+use Rattle.cluster_types.specs.UnpackedStates.{states_of}
 use Rattle.plan_laws.proofs.MadeOnes.{never_both, there}
 use Rattle.plan_laws.proofs.Reaches as reached
 use Rattle.plan_laws.proofs.Reaches.{Reaches, all_of_reached}
@@ -18,7 +18,7 @@ use Rattle.plan_laws.proofs.Ready.{ready_is_one}
 use Rattle.placement.specs.declared.totals.table.ScoreTable.{ScoreTable}
 use Rattle.placement.specs.Scores.{scores_of}
 use Rattle.placement.specs.Inner.DecisionLists.{decisions_in, compared_key}
-use Rattle.placement.specs.Inner.Effective.{effective_in}
+use Rattle.placement.specs.Inner.EffectiveKeys.{effective_in}
 use Rattle.placement.specs.Inner.Turns as turns
 use Rattle.placement.specs.Inner.Turns.{AreInOrder, IsFirstReady, WereMade, is_ready_in}
 use Rattle.placement.proofs.DecisionsWithin.{decisions-within}

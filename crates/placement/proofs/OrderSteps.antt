@@ -13,8 +13,8 @@ use Rattle.cluster_types.specs.Decisions.{Key, is_among, leaf_of}
 use Rattle.cluster_types.specs.Valid.{IsValid}
 use Rattle.plan_laws.proofs.MadeBefore.{before_some_way}
 use Rattle.placement.specs.declared.order.queue.Queue.{Queue}
-use Rattle.placement.specs.declared.order.ranked.Ranked.{Ranked}
-use Rattle.placement.specs.Inner.Effective.{goes_before}
+use Rattle.placement.specs.declared.order.ranked_decisions.Ranked.{Ranked}
+use Rattle.placement.specs.Inner.EffectiveKeys.{goes_before}
 use Rattle.placement.specs.Inner.Flags.{AreFlags, slot_of}
 use Rattle.placement.specs.Inner.Links.{links_in}
 use Rattle.placement.specs.Inner.Queueing.{IsFirstPlace, IsQueue, has_place, is_free}

@@ -15,10 +15,10 @@ use Rattle.cluster_types.specs.CellStates.{cell_state}
 use Rattle.cluster_types.specs.Failures.{is_banned}
 use Rattle.cluster_types.specs.NodeStates.{is_online_state, is_standby, is_usable}
 use Rattle.cluster_types.specs.Terms.{is_active, is_started, location_scores, opt_in_scores, own_terms, stickiness_scores}
-use Rattle.cluster_types.specs.Unpacked.{states_of}
+use Rattle.cluster_types.specs.UnpackedStates.{states_of}
 use Rattle.cluster_types.proofs.StatesKept.{cell_kept, node_kept}
 use Rattle.placement.specs.OwnRows.{is_active_by, is_banned_by, own_by, stickiness_of}
-use Rattle.placement.specs.Usable.{is_usable_by}
+use Rattle.placement.specs.UsableNodes.{is_usable_by}
 
 -- 0 or more is not below 0
 pub from-zero : (z : ℤ) → not (is_negative z) ≡ int_le (pos 0) z

@@ -8,7 +8,8 @@ use Rattle.cluster_types.specs.declared.states.States.{States}
 use Rattle.cluster_types.specs.Terms.{is_started}
 use Rattle.cluster_types.specs.Valid.{KeepsLimits}
 use Rattle.placement.specs.Locations.{scores_given, is_unnamed}
-use Rattle.placement.specs.OwnRows.{is_active_by, is_banned_by, stickiness_of, sticky_by, banned_by, own_by, own_size}
+use Rattle.placement.specs.OwnRows.{is_active_by, is_banned_by, stickiness_of, sticky_by, banned_by, own_by}
+use Rattle.placement.specs.Inner.OwnRows.{own_size}
 use Rattle.placement.specs.Rows.{few}
 use Rattle.placement.proofs.FewTerms.{few-where, few-minus}
 use Rattle.placement.proofs.Given.{few-given}

@@ -21,7 +21,7 @@ use Rattle.cluster_types.specs.May.{may_be_running, may_be_promoted}
 use Rattle.cluster_types.specs.NodeStates.{is_online, is_online_in, is_online_state}
 use Rattle.cluster_types.specs.Pins.{is_blocked_state, is_pinned, is_unprobed_state, pin_of, pinned_targets}
 use Rattle.cluster_types.specs.Tables.{targets_of}
-use Rattle.cluster_types.specs.Unpacked.{states_of}
+use Rattle.cluster_types.specs.UnpackedStates.{states_of}
 use Rattle.cluster_types.proofs.PinnedLeaves.{pin_known}
 use Rattle.cluster_types.proofs.StatesKept.{cell_kept, length-rows, node_kept, slice_get-rows}
 use Rattle.plan_laws.proofs.TablesWithin.{kept_within, pinned_within, same_within}

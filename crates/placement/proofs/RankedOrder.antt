@@ -10,7 +10,7 @@ use Rattle.plan_laws.proofs.MadeBefore.{less_somewhere}
 use Rattle.plan_laws.proofs.OneOrder.{less_one_way, one_way, tie_one_way}
 use Rattle.cluster_types.specs.declared.placement.Decision.{Decision}
 use Rattle.cluster_types.specs.Decisions.{Key, is_less, is_place, leaf_of}
-use Rattle.placement.specs.declared.order.ranked.Ranked.{Ranked}
+use Rattle.placement.specs.declared.order.ranked_decisions.Ranked.{Ranked}
 use Rattle.placement.specs.Inner.Turns.{AreSorted, ranked_by, ranks_before}
 
 -- by keys first: l and its fellow say which is less, t whose leaf comes first

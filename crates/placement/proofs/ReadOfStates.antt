@@ -17,11 +17,12 @@ use Rattle.cluster_types.specs.NodeStates.{is_usable}
 use Rattle.cluster_types.specs.Rights.{may_keep, may_start, rights_of}
 use Rattle.cluster_types.specs.Tables.{Targets}
 use Rattle.cluster_types.specs.Terms.{active_count, is_active}
-use Rattle.cluster_types.specs.Unpacked.{states_of}
+use Rattle.cluster_types.specs.UnpackedStates.{states_of}
 use Rattle.cluster_types.proofs.StatesKept.{cell_kept, fail_stop_kept}
 use Rattle.placement.specs.OwnRows.{is_active_by}
 use Rattle.placement.proofs.OwnOfStates.{active-is, usable-is}
-use Rattle.placement.specs.Reads.{active_count_in, cap_in, is_kept_in, is_open_in, is_permitted_in, state_in}
+use Rattle.placement.specs.Reads.{active_count_in, is_kept_in, state_in}
+use Rattle.placement.specs.Inner.Reads.{cap_in, is_open_in, is_permitted_in}
 
 turned : (s k b h : Bool) → (s || (k && b) && h) ≡ (s || k && h && b)
 turned true k b h = refl

@@ -19,10 +19,10 @@ use Rattle.cluster_types.specs.Pins.{pin_of}
 use Rattle.cluster_types.specs.Reasons.{HasReason}
 use Rattle.cluster_types.specs.Rights.{may_start}
 use Rattle.cluster_types.specs.Tables.{targets_of}
-use Rattle.cluster_types.specs.Unpacked.{states_of}
+use Rattle.cluster_types.specs.UnpackedStates.{states_of}
 use Rattle.cluster_types.proofs.StatesKept.{fail_stop_kept}
 use Rattle.plan_laws.proofs.TablesWithin.{kept_within}
-use Rattle.placement.specs.Reads.{is_fail_stopped_in}
+use Rattle.placement.specs.Inner.Reads.{is_fail_stopped_in}
 use Rattle.placement.specs.Inner.Reasoning.{reason_in}
 use Rattle.placement.proofs.LeafReasons.{leaf_reason}
 

@@ -12,7 +12,7 @@ use Rattle.placement.proofs.EachNode.{each-more}
 use Rattle.placement.proofs.FewTerms.{few-kept}
 use Rattle.placement.proofs.Given.{taken, kept-more}
 use Rattle.placement.proofs.TermRows.{row-same}
-use Rattle.placement.specs.Inner.Counted.{counted_scores}
+use Rattle.placement.specs.Inner.CountedScores.{counted_scores}
 
 -- one more node of those that pass
 pub one-node : (nodes : ℕ) (p : ℕ → Bool) (k : ℕ) (here : Bool) (term : ℤ) (terms : ℕ → List ℤ) (row : List Tally) → p k ≡ here

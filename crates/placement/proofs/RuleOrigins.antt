@@ -10,7 +10,7 @@ use Rattle.cluster_types.specs.declared.rules.Colocation.{Colocation}
 use Rattle.cluster_types.specs.declared.rules.Order.{Order}
 use Rattle.cluster_types.specs.Choice.{is_mandatory}
 use Rattle.cluster_types.specs.Pins.{is_pinned, is_pinned_in, pin_of}
-use Rattle.placement.specs.declared.held.dependencies.Dependency.{Dependency}
+use Rattle.placement.specs.declared.held_targets.dependencies.Dependency.{Dependency}
 use Rattle.placement.specs.Inner.Dependencies.{by_colocations, by_orders, dependencies_by, free_of, from_colocation, from_order, may_hold_back, of_colocation, of_order}
 use Rattle.cluster_types.proofs.PinnedLeaves.{pin_known}
 

@@ -8,7 +8,8 @@ use Rattle.cluster_types.specs.declared.cluster.Cluster.{Cluster}
 use Rattle.cluster_types.specs.declared.rules.Location.{Location}
 use Rattle.cluster_types.specs.declared.rules.RuleLocation.{RuleLocation}
 use Rattle.cluster_types.specs.declared.states.States.{States}
-use Rattle.placement.specs.OwnRows.{own_by, terms_by, own_size, size_below}
+use Rattle.placement.specs.OwnRows.{own_by}
+use Rattle.placement.specs.Inner.OwnRows.{terms_by, own_size, size_below}
 use Rattle.placement.specs.Rows.{few}
 use Rattle.placement.proofs.FewTerms.{few-append}
 use Rattle.placement.proofs.OwnTerms.{few-own}

@@ -14,8 +14,8 @@ use Rattle.cluster_types.specs.declared.placement.Decision.TheVariants.{Place, P
 use Rattle.cluster_types.specs.Decisions.{leaf_of}
 use Rattle.cluster_types.proofs.StatesKept.{get_or-rows}
 use Rattle.cluster_types.specs.Terms.{base, is_promoted, location_scores, promotion_score, with_lenders}
-use Rattle.cluster_types.specs.Unpacked.{states_of}
-use Rattle.placement.specs.OwnRows.{terms_by}
+use Rattle.cluster_types.specs.UnpackedStates.{states_of}
+use Rattle.placement.specs.Inner.OwnRows.{terms_by}
 use Rattle.placement.specs.Inner.ScoresByStates.{place_by, promote_by, table_by}
 use Rattle.placement.specs.Scores.{cells_of, score_in_list, score_in, scores_of}
 use Rattle.placement.proofs.JoinedOfStates.{all-joins, terms-is}

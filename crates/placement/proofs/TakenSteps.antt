@@ -5,7 +5,7 @@ use Rattle.std.specs.Prelude.{not}
 use Rattle.cluster_types.specs.declared.leaf.Role.{Role}
 use Rattle.cluster_types.specs.Tables.{Targets, holds_role}
 use Rattle.plan_laws.proofs.StayHeld.{has, holds_is}
-use Rattle.placement.specs.declared.held.dependencies.Dependency.{Dependency}
+use Rattle.placement.specs.declared.held_targets.dependencies.Dependency.{Dependency}
 use Rattle.placement.specs.Inner.Taking.{TakenAway, has_its_primary, none_yet, one_more, takes}
 use Rattle.placement.proofs.RolesTaken.{lowered}
 

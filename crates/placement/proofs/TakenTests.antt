@@ -5,7 +5,7 @@ use Rattle.lemmas.proofs.Booleans.{later, sooner}
 use Rattle.cluster_types.specs.declared.leaf.Role.{Role}
 use Rattle.cluster_types.specs.Tables.{Targets, holds_role}
 use Rattle.plan_laws.proofs.MadeOnes.{never_both}
-use Rattle.placement.specs.declared.held.dependencies.Dependency.{Dependency}
+use Rattle.placement.specs.declared.held_targets.dependencies.Dependency.{Dependency}
 use Rattle.placement.specs.Inner.Taking.{has_its_primary, has_primary_where, is_anywhere, takes}
 use Rattle.placement.proofs.Lacking.{anywhere_not, held_not, none_in_range}
 

@@ -17,7 +17,8 @@ use Rattle.cluster_types.specs.Terms.{is_tie, is_tied}
 use Rattle.cluster_types.specs.Valid.{IsValid}
 use Rattle.cluster_types.proofs.RuleLeaves.{role_leaf}
 use Rattle.edges.specs.declared.edge.Edge.{Edge}
-use Rattle.placement.specs.Ties.{AreTied, AreTies, lacks_mark, unmarked, with_mark_if, leads, is_missed, tie_of, tied_within}
+use Rattle.placement.specs.Ties.{AreTies, tie_of, tied_within}
+use Rattle.placement.specs.Inner.Ties.{AreTied, lacks_mark, unmarked, with_mark_if, leads, is_missed}
 
 -- an element that passes
 some_passes : {X : Type 0} (p : X → Bool) (xs : List X) {P : Type 0} → list_any p xs ≡ true → ((x : X) → Contains xs x → p x ≡ true → P) → P

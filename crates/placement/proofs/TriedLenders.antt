@@ -8,9 +8,10 @@ use Rattle.score.specs.Total.{total_of}
 use Rattle.cluster_types.specs.declared.cluster.Cluster.{Cluster}
 use Rattle.cluster_types.specs.declared.states.States.{States}
 use Rattle.placement.specs.Inner.LendingRows.{leaves_a_node_by}
-use Rattle.placement.specs.OwnRows.{own_by, terms_by}
+use Rattle.placement.specs.OwnRows.{own_by}
+use Rattle.placement.specs.Inner.OwnRows.{terms_by}
 use Rattle.placement.specs.Rows.{IsRow}
-use Rattle.placement.specs.Usable.{is_usable_by}
+use Rattle.placement.specs.UsableNodes.{is_usable_by}
 use Rattle.placement.proofs.Lenders.{terms-more}
 use Rattle.placement.proofs.TermRows.{row-same}
 

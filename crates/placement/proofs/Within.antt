@@ -8,8 +8,8 @@ use Rattle.cluster_types.specs.declared.states.Rights.{Rights}
 use Rattle.cluster_types.specs.declared.states.States.{States}
 use Rattle.cluster_types.specs.Choice.{is_placed_for}
 use Rattle.cluster_types.specs.Tables.{Targets}
-use Rattle.placement.specs.Usable.{is_usable_by}
-use Rattle.placement.specs.Reads.{is_open_in, is_permitted_in}
+use Rattle.placement.specs.UsableNodes.{is_usable_by}
+use Rattle.placement.specs.Inner.Reads.{is_open_in, is_permitted_in}
 
 pub open-within : (c : Cluster) (states : States) (rights : Rights) (table : Targets) (d : Decision) (n : ℕ) → is_open_in c states rights table d n ≡ true → n < length c.nodes
 open-within c states rights table d n h =

@@ -10,4 +10,4 @@ pub mod Scores
 pub mod Steps
 pub mod Tests
 pub mod Ties
-pub mod Usable
+pub mod UsableNodes

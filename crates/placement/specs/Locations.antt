@@ -5,17 +5,10 @@ use Rattle.std.specs.Option.{option_map_or}
 use Rattle.date_rules.specs.Rule.{holds}
 use Rattle.cluster_types.specs.declared.cluster.Cluster.{Cluster}
 use Rattle.cluster_types.specs.declared.leaf.Role.{Role}
-use Rattle.cluster_types.specs.declared.leaf.Role.TheVariants.{Started, Promoted}
 use Rattle.cluster_types.specs.declared.node.Node.{Node}
 use Rattle.cluster_types.specs.declared.rules.Location.{Location}
 use Rattle.cluster_types.specs.declared.rules.RuleLocation.{RuleLocation}
 use Rattle.cluster_types.specs.Fields.{is_follower}
-use Rattle.cluster_types.specs.Terms.{is_started, is_promoted}
-
--- the role is this one
-abbrev pub is_role : Role → Role → Bool
-is_role Started role = is_started role
-is_role Promoted role = is_promoted role
 
 -- the scores of these locations that are of the leaf on the node, in a role that passes
 abbrev pub located : (Role → Bool) → ℕ → List Location → ℕ → List ℤ

@@ -1,13 +1,10 @@
 -- The own terms of a leaf on a node, by the states of the cluster (follows from the definition of own terms).
-use Rattle.std.specs.Prelude.{ℕ, ◌+◌, ◌*◌, ◌==◌, ◌≡◌, Bool, false, ℤ, pos, Option, Some, List, count_by, length, slice_get, sum_by}
-use Rattle.std.specs.List.{flat_map, range_with_len}
+use Rattle.std.specs.Prelude.{ℕ, ◌+◌, ◌*◌, ◌≡◌, Bool, false, ℤ, pos, Option, Some, List, length, slice_get}
 use Rattle.std.specs.Option.{option_map_or}
 use Rattle.score.specs.Total.{minus_infinity}
 use Rattle.score.specs.Row.{Tally}
 use Rattle.cluster_types.specs.declared.cluster.Cluster.{Cluster}
 use Rattle.cluster_types.specs.declared.leaf.Leaf.{Leaf}
-use Rattle.cluster_types.specs.declared.rules.Location.{Location}
-use Rattle.cluster_types.specs.declared.rules.RuleLocation.{RuleLocation}
 use Rattle.cluster_types.specs.declared.states.Cell.{Cell}
 use Rattle.cluster_types.specs.declared.states.States.{States}
 use Rattle.cluster_types.specs.Terms.{is_active, is_started}
@@ -45,20 +42,7 @@ module _ (c : Cluster) (states : States) where
   abbrev pub own_by : ℕ → ℕ → List ℤ
   own_by r = more_where (is_unnamed c states.moment r) minus_infinity (banned_by r)
 
-  -- the own terms of some leaves on a node
-  abbrev pub terms_by : List ℕ → ℕ → List ℤ
-  terms_by leaves n = flat_map (λ r. own_by r n) leaves
-
   -- a row of own terms for each leaf
   pub record AreOwnRows (rows : List (List Tally)) : Type 0 where
     pub size : length rows ≡ length c.leaves
     pub each : (r : ℕ) (row : List Tally) → slice_get rows r ≡ Some row → IsRow (length c.nodes) (own_by r) row
-
-module _ (c : Cluster) where
-  -- at most so many of the own terms of a leaf on a node are finite
-  abbrev pub own_size : ℕ → ℕ
-  own_size r = count_by (λ (l : Location). l.leaf == r) c.locations + count_by (λ (rl : RuleLocation). rl.leaf == r) c.rule_locations + 1
-
-  -- and so many of those of all leaves below one
-  abbrev pub size_below : ℕ → ℕ
-  size_below s = sum_by own_size (range_with_len 0 s)

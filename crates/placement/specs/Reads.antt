@@ -1,34 +1,17 @@
--- What a decision reads of the states of the cluster, of what it may do and of the totals before colocations (follows from the definitions of which
--- nodes a decision chooses).
-use Rattle.std.specs.Prelude.{ℕ, ◌+◌, ◌*◌, ◌&&◌, ◌||◌, nat_le, min, Bool, false, if◌then◌else◌, ℤ, Option, List, [], ◌∷◌, length, count_by, slice_get, unwrap_or}
+-- What a decision reads of the states of the cluster and of what it may do (follows from the definitions of which nodes a decision chooses).
+use Rattle.std.specs.Prelude.{ℕ, ◌+◌, ◌*◌, ◌&&◌, nat_le, Bool, false, Option, length, count_by, slice_get}
 use Rattle.std.specs.List.{range_with_len}
 use Rattle.std.specs.Option.{option_map, option_map_or}
-use Rattle.score.specs.Choice.{is_candidate_node}
-use Rattle.score.specs.Total.{total_of}
 use Rattle.cluster_types.specs.declared.cluster.Cluster.{Cluster}
 use Rattle.cluster_types.specs.declared.placement.Decision.{Decision}
-use Rattle.cluster_types.specs.declared.placement.Decision.TheVariants.{Place, Promote}
 use Rattle.cluster_types.specs.declared.states.Cell.{Cell}
 use Rattle.cluster_types.specs.declared.states.CellState.{CellState}
 use Rattle.cluster_types.specs.declared.states.Rights.{Rights}
 use Rattle.cluster_types.specs.declared.states.States.{States}
-use Rattle.cluster_types.specs.Choice.{has_primaries, is_apart, is_kept_by, is_placed_for, is_stopped_role, is_unpromoted_role, preference}
+use Rattle.cluster_types.specs.Choice.{is_kept_by}
 use Rattle.cluster_types.specs.Decisions.{leaf_of}
-use Rattle.cluster_types.specs.Fields.{copies, promoted_copies, target_role_of}
-use Rattle.cluster_types.specs.Tables.{Targets}
-use Rattle.placement.specs.declared.totals.table.ScoreTable.{ScoreTable}
+use Rattle.cluster_types.specs.Fields.{copies}
 use Rattle.placement.specs.OwnRows.{is_active_by}
-use Rattle.placement.specs.Scores.{score_in}
-use Rattle.placement.specs.Usable.{is_usable_by}
-
--- on how many nodes a leaf is promoted at most
-abbrev pub promote_cap_of : Cluster → ℕ → ℕ
-promote_cap_of c r =
-    if is_stopped_role (target_role_of c r) || is_unpromoted_role (target_role_of c r) then 0 else min (copies c r) (promoted_copies c r)
-
--- a failure stops the leaf everywhere
-abbrev pub is_fail_stopped_in : States → ℕ → Bool
-is_fail_stopped_in states r = unwrap_or (slice_get states.fail_stop r) false
 
 module _ (c : Cluster) (states : States) where
   -- the state of a cell, if it is known
@@ -43,28 +26,7 @@ module _ (c : Cluster) (states : States) where
   abbrev pub is_kept_in : Decision → ℕ → Bool
   is_kept_in d n = option_map_or (is_kept_by d) (state_in (leaf_of d) n) false
 
-  -- how many nodes a decision chooses at most
-  abbrev pub cap_in : Decision → ℕ
-  cap_in (Place r) = if is_stopped_role (target_role_of c r) || is_fail_stopped_in states r then 0 else copies c r
-  cap_in (Promote r) = promote_cap_of c r
-
   module _ (rights : Rights) where
     -- what runs of a leaf may stay, as far as the cluster and its copies are asked
     abbrev pub may_stay_in : ℕ → Bool
     may_stay_in r = rights.may_keep && nat_le (active_count_in r) (copies c r)
-
-    abbrev pub is_permitted_in : Decision → ℕ → Bool
-    is_permitted_in d n = rights.may_start || may_stay_in (leaf_of d) && is_kept_in d n
-
-    -- the node may be chosen, as far as colocations and totals aren't asked
-    abbrev pub is_open_in : Targets → Decision → ℕ → Bool
-    is_open_in table d n = is_usable_by c states n && is_permitted_in d n && is_placed_for table d n
-
-    -- the node may be chosen, where these are the totals
-    abbrev pub is_candidate_in : Targets → Decision → List ℤ → ℕ → Bool
-    is_candidate_in table d totals n =
-        (is_open_in table d n && (has_primaries c table d n && is_apart c table d n)) && is_candidate_node totals n
-
--- the total of a decision on a node, with the table so far
-abbrev pub total_in : Cluster → ScoreTable → Targets → Decision → ℕ → ℤ
-total_in c scores table d n = total_of (score_in scores d n ∷ preference c table d n ∷ [])

@@ -1,4 +1,4 @@
--- What decisions choose and leave, of the journal and the promotion scores that are told.
+-- What decisions choose, of the journal and the promotion scores that are told.
 use Rattle.std.specs.Prelude.{◌≡◌, ℕ, ◌<◌, ℤ, List, length, map}
 use Rattle.std.specs.List.{range_with_len}
 use Rattle.score.specs.NodeSet.{has}
@@ -6,13 +6,11 @@ use Rattle.score.specs.declared.node_set.NodeSet.{NodeSet}
 use Rattle.cluster_types.specs.declared.cluster.Cluster.{Cluster}
 use Rattle.cluster_types.specs.declared.journal.Event.{Event}
 use Rattle.cluster_types.specs.declared.journal.Promotion.{Promotion}
-use Rattle.cluster_types.specs.declared.placement.Decided.{Decided}
 use Rattle.cluster_types.specs.declared.placement.Decision.{Decision}
 use Rattle.cluster_types.specs.declared.states.States.{States}
-use Rattle.cluster_types.specs.Choice.{after_decision, after_decisions, is_chosen, total_on}
-use Rattle.cluster_types.specs.Plans.{with_totals}
+use Rattle.cluster_types.specs.Choice.{is_chosen, total_on}
 use Rattle.cluster_types.specs.Tables.{Targets}
-use Rattle.cluster_types.specs.Unpacked.{states_of}
+use Rattle.cluster_types.specs.UnpackedStates.{states_of}
 use Rattle.placement.specs.declared.totals.table.ScoreTable.{ScoreTable}
 use Rattle.placement.specs.Scores.{scores_of}
 
@@ -26,13 +24,3 @@ module _ (c : Cluster) (es : List Event) (promotions : List Promotion) where
   pub record Chooses (table : Targets) (d : Decision) (totals : List ℤ) (nodes : NodeSet) : Type 0 where
     pub each : totals ≡ map (total_on c es promotions table d) (range_with_len 0 (length c.nodes))
     pub chosen : (n : ℕ) → n < length c.nodes → has nodes n ≡ is_chosen c es promotions table d n
-
-  -- what one more decision makes of a table, with its totals
-  pub record IsMade (table : Targets) (d : Decision) (after : Targets) (decided : Decided) : Type 0 where
-    pub cells : after ≡ after_decision c es promotions table d
-    pub totals : decided ≡ record { decision = d; totals = map (total_on c es promotions table d) (range_with_len 0 (length c.nodes)) }
-
-  -- what some decisions make of it, one after the other
-  pub record AreMade (table : Targets) (ds : List Decision) (after : Targets) (decided : List Decided) : Type 0 where
-    pub cells : after ≡ after_decisions c es promotions table ds
-    pub totals : decided ≡ with_totals c es promotions table ds

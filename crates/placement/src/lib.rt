@@ -12,7 +12,7 @@ mod totals;
 mod colocations;
 
 // What is left as it is.
-mod pinned;
+mod pinned_targets;
 mod pinning;
 
 // What is decided, by what keys, and in which order.
@@ -22,10 +22,10 @@ mod order;
 mod choice;
 
 // What mandatory rules ask of the chosen targets, and which targets are left.
-mod held;
+mod held_targets;
 
 // Why a leaf has no target.
-mod unplaced;
+mod unplaced_leaves;
 
 // All of it.
 mod placing;
@@ -38,9 +38,9 @@ pub use choice::loaded_table::LoadedTable;
 pub use choice::permitting::{is_placed, may_stay};
 pub use colocations::preferences::{counts, preference};
 pub use colocations::testing::{allowed, has_primary, keeps_apart};
-pub use held::final_targets::targets;
+pub use held_targets::final_targets::targets;
 pub use order::making::decisions_in_order;
-pub use pinned::pinned_table;
+pub use pinned_targets::pinned_table;
 pub use pinning::pins;
 pub use placing::{place, placement_of};
 pub use totals::adding::{both, copy_of};
@@ -55,4 +55,4 @@ pub(crate) use totals::putting::put_if;
 pub(crate) use totals::row_totals::totals_of;
 pub use totals::table::{ScoreTable, rows};
 pub use totals::ties::{tied, ties_of};
-pub use unplaced::missing::reasons;
+pub use unplaced_leaves::missing::reasons;

@@ -17,5 +17,5 @@ pub mod links;
 pub mod making;
 pub mod ordering;
 pub mod queue;
-pub mod ranked;
+pub mod ranked_decisions;
 pub mod turns;

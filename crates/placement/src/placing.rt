@@ -6,9 +6,9 @@ ghost use Rattle.cluster_types.specs.declared.journal.Event.{Event as EventOf};
 ghost use Rattle.cluster_types.specs.declared.journal.Promotion.{Promotion as PromotionOf};
 ghost use Rattle.cluster_types.specs.Pins.{pin_of};
 ghost use Rattle.cluster_types.specs.Plans.{IsPlaced};
-ghost use Rattle.cluster_types.specs.Unpacked.{states_of};
+ghost use Rattle.cluster_types.specs.UnpackedStates.{states_of};
 ghost use Rattle.cluster_types.specs.Valid.{IsValid};
-ghost use Rattle.placement.specs.Inner.Chosen.{AreChosen};
+ghost use Rattle.placement.specs.Inner.ChosenTable.{AreChosen};
 ghost use Rattle.placement.specs.Scores.{scores_of};
 
 use crate::{

@@ -1,7 +1,7 @@
 //! Tests that are tables: each row is about a cluster and its journal, and says what is answered of them.
 
 ghost use Rattle.std.specs.Prelude.{◌≡◌};
-ghost use Rattle.cluster_types.specs.Unpacked.{states_of};
+ghost use Rattle.cluster_types.specs.UnpackedStates.{states_of};
 ghost use Rattle.cluster_types.specs.Valid.{IsValid};
 
 use crate::plain::Known;

@@ -23,7 +23,7 @@ mod states;
 #[cfg(test)]
 mod choices;
 #[cfg(test)]
-mod held;
+mod held_cells;
 #[cfg(test)]
 mod orders;
 #[cfg(test)]

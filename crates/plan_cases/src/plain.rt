@@ -1,9 +1,9 @@
 //! Small clusters and journals that texts say.
 
 ghost use Rattle.std.specs.Prelude.{◌≡◌, true};
-ghost use Rattle.cluster_types.specs.Unpacked.{states_of};
+ghost use Rattle.cluster_types.specs.UnpackedStates.{states_of};
 ghost use Rattle.cluster_types.specs.Valid.{IsValid, KeepsLimits};
-ghost use Rattle.state_unpack.specs.CellsKept.{has_few_monitors};
+ghost use Rattle.state_unpack.specs.Knowledge.{has_few_monitors};
 
 use cluster_types::{Cluster, Journal, States, moment_of};
 use input_reading::read_input;

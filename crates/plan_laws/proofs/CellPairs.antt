@@ -10,7 +10,7 @@ use Rattle.cluster_types.specs.declared.journal.Event.{Event}
 use Rattle.cluster_types.specs.declared.leaf.Op.TheVariants as op
 use Rattle.cluster_types.specs.declared.leaf.Role.TheVariants as role
 use Rattle.cluster_types.specs.Fields.{copies, is_promotable}
-use Rattle.cluster_types.specs.Needed.{Needed}
+use Rattle.cluster_types.specs.NeededActions.{Needed}
 use Rattle.cluster_types.specs.Numbers.{Link, is_place_before, is_earlier, link, links, action_place, rank, step_of}
 use Rattle.cluster_types.specs.Precedence.{CellOf, both, change_cell, comes_first_in_cell, demotes_first, fences_first, gives_any, is_migrating, is_one_cell, is_one_leaf, is_some_cell, op_cell, probe_cell, probes_first, stops_first}
 use Rattle.cluster_types.specs.Tables.{Targets, holds_role}

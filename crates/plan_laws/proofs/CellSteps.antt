@@ -13,7 +13,7 @@ use Rattle.cluster_types.specs.declared.placement.Target.TheVariants as target
 use Rattle.cluster_types.specs.declared.states.CellState.{CellState}
 use Rattle.cluster_types.specs.declared.states.CellState.TheVariants as cell
 use Rattle.cluster_types.specs.CellStates.{cell_state}
-use Rattle.cluster_types.specs.Needed.{GetsStep, steps_at, steps_of}
+use Rattle.cluster_types.specs.NeededActions.{GetsStep, steps_at, steps_of}
 use Rattle.cluster_types.specs.Pins.{is_pinned}
 use Rattle.cluster_types.specs.Tables.{Targets, is_promoted_target, is_somewhere}
 use Rattle.cluster_types.specs.Terms.{is_active}

@@ -31,7 +31,7 @@ module _ (c : Cluster) (es : List Event) (table : Targets) where
         mandatory = of_kind o.kind (sooner (is_mandatory_order o.kind) (is_giving o.first_op) two);
         first_gives = later (is_mandatory_order o.kind) (is_giving o.first_op) two;
         then_gives = later _ (is_giving o.then_op) three;
-        managed = not-true (is_pinned c es o.then_leaf) (later _ (not (is_pinned c es o.then_leaf)) four);
+        not_pinned = not-true (is_pinned c es o.then_leaf) (later _ (not (is_pinned c es o.then_leaf)) four);
         within = ltb-true n (length c.nodes) (later _ (nat_lt n (length c.nodes)) five);
         chosen = later _ (holds_role table o.then_leaf (role_given o.then_op) n) h;
       }
@@ -39,7 +39,7 @@ module _ (c : Cluster) (es : List Event) (table : Targets) where
   pub may_of_order : (o : Order) (n : ℕ) → OrderCanHoldBack c es table o n → may_order c es table o n ≡ true
   may_of_order o n may =
       let kind_is : is_mandatory_order o.kind ≡ true = rw may.mandatory refl in
-      let free = not_from_false (is_pinned c es o.then_leaf) may.managed in
+      let free = not_from_false (is_pinned c es o.then_leaf) may.not_pinned in
       let low = lt-ltb n (length c.nodes) may.within in
       rw (kind_is, may.first_gives, may.then_gives, free, low) may.chosen
 
@@ -50,14 +50,14 @@ module _ (c : Cluster) (es : List Event) (table : Targets) where
       record {
         present = present;
         mandatory = sooner (is_mandatory col) (not (is_pinned c es col.dependent)) two;
-        managed = not-true (is_pinned c es col.dependent) (later (is_mandatory col) (not (is_pinned c es col.dependent)) two);
+        not_pinned = not-true (is_pinned c es col.dependent) (later (is_mandatory col) (not (is_pinned c es col.dependent)) two);
         within = ltb-true n (length c.nodes) (later _ (nat_lt n (length c.nodes)) three);
         chosen = later _ (holds_role table col.dependent col.dependent_role n) h;
       }
 
   pub may_of_colocation : (col : Colocation) (n : ℕ) → ColocationCanHoldBack c es table col n → may_colocation c es table col n ≡ true
   may_of_colocation col n may =
-      let free = not_from_false (is_pinned c es col.dependent) may.managed in
+      let free = not_from_false (is_pinned c es col.dependent) may.not_pinned in
       let low = lt-ltb n (length c.nodes) may.within in
       rw (may.mandatory, free, low) may.chosen
 

@@ -95,7 +95,7 @@ module _ (c : Cluster) (es : List Event) (table : Targets) where
             let may : ColocationCanHoldBack c es table col n = record {
               present = present;
               mandatory = mandatory;
-              managed = managed;
+              not_pinned = managed;
               within = within;
               chosen = chosen targets col.dependent n col.dependent_role kept h;
             } in
@@ -138,7 +138,7 @@ module _ (c : Cluster) (es : List Event) (table : Targets) where
               mandatory = mandatory;
               first_gives = gives;
               then_gives = then_gives;
-              managed = managed;
+              not_pinned = managed;
               within = within;
               chosen = chosen targets o.then_leaf n (role_given o.then_op) kept h;
             } in

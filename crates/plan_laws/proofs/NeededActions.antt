@@ -16,7 +16,7 @@ use Rattle.cluster_types.specs.declared.states.CellState.TheVariants as cell
 use Rattle.cluster_types.specs.CellStates.{cell_state}
 use Rattle.cluster_types.specs.Fields.{is_promotable}
 use Rattle.cluster_types.specs.May.{is_left_promoted}
-use Rattle.cluster_types.specs.Needed.{GetsStep, GetsStepAnywhere, NeededBeforeMigration, fence, probe, step, monitor, Migrates, Needed, kept, sent, taken_in}
+use Rattle.cluster_types.specs.NeededActions.{GetsStep, GetsStepAnywhere, NeededBeforeMigration, fence, probe, step, monitor, Migrates, Needed, kept, sent, taken_in}
 use Rattle.cluster_types.specs.Precedence.{is_migrating, sends}
 use Rattle.cluster_types.specs.Tables.{Targets, is_promoted_target}
 use Rattle.cluster_types.proofs.NeededLaws.{bounds_of_first}

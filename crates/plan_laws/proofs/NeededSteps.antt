@@ -12,7 +12,7 @@ use Rattle.cluster_types.specs.declared.states.CellState.{CellState}
 use Rattle.cluster_types.specs.declared.states.CellState.TheVariants as cell
 use Rattle.cluster_types.specs.Choice.{is_kept_by}
 use Rattle.cluster_types.specs.Decisions.{decision_of}
-use Rattle.cluster_types.specs.Needed.{steps_of}
+use Rattle.cluster_types.specs.NeededActions.{steps_of}
 use Rattle.plan_laws.proofs.StayHeld.{has}
 
 abbrev is_start : Op → Bool

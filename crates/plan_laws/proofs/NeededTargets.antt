@@ -17,7 +17,7 @@ use Rattle.cluster_types.specs.CellStates.{cell_state}
 use Rattle.cluster_types.specs.Choice.{is_kept_by, is_permitted}
 use Rattle.cluster_types.specs.Decisions.{decision_of, leaf_of}
 use Rattle.cluster_types.specs.Fields.{copies}
-use Rattle.cluster_types.specs.Needed.{Cycled, NeededBeforeMigration, GetsStep, Migrates, Needed, kept, runs, sent, step, steps_at, steps_of, taken_in}
+use Rattle.cluster_types.specs.NeededActions.{Cycled, NeededBeforeMigration, GetsStep, Migrates, Needed, kept, runs, sent, step, steps_at, steps_of, taken_in}
 use Rattle.cluster_types.specs.Pins.{is_pinned}
 use Rattle.cluster_types.specs.Plans.{IsPlaced}
 use Rattle.cluster_types.specs.Rights.{may_keep, may_start}

@@ -10,7 +10,7 @@ use Rattle.cluster_types.specs.declared.leaf.Op.{Op}
 use Rattle.cluster_types.specs.declared.leaf.Op.TheVariants as op
 use Rattle.cluster_types.specs.declared.rules.Order.{Order}
 use Rattle.cluster_types.specs.Fields.{is_promotable}
-use Rattle.cluster_types.specs.Needed.{GetsStepAnywhere, Needed}
+use Rattle.cluster_types.specs.NeededActions.{GetsStepAnywhere, Needed}
 use Rattle.cluster_types.specs.Numbers.{Link, is_earlier, is_step, is_within_phase, link, links, order_links, rank, step_of}
 use Rattle.cluster_types.specs.Precedence.{as_earlier, as_later, inverse, is_inverse_pair, is_migrating, is_ordered, is_ordered_pair, is_serialize, is_taken_back, is_giving, takers}
 use Rattle.cluster_types.specs.Tables.{Targets, is_in_scope}
@@ -89,7 +89,7 @@ module _ (c : Cluster) (es : List Event) (targets : Targets) (actions : List Act
     own_self op.Promote e up h q same =
         let one : Migrant c es targets o.then_leaf = migrating c es targets actions needed o.then_leaf h in
         let may : MayHaveWord c o.first op.Promote = subst (MayHaveWord c o.first) e valid.first in
-        both_ways (is_promotable c o.then_leaf) one.migrates.plain (subst (λ v. is_promotable c v ≡ true) same may.1)
+        both_ways (is_promotable c o.then_leaf) one.migrates.not_promotable (subst (λ v. is_promotable c v ≡ true) same may.1)
     own_self op.Stop e up h q same = cc
     own_self op.Demote e up h q same = cc
     own_self op.Monitor e up h q same = cc

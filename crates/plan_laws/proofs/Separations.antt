@@ -8,7 +8,7 @@ use Rattle.cluster_types.specs.declared.journal.Event.{Event}
 use Rattle.cluster_types.specs.declared.leaf.Role.{Role}
 use Rattle.cluster_types.specs.declared.rules.Colocation.{Colocation}
 use Rattle.cluster_types.specs.Choice.{is_separation}
-use Rattle.cluster_types.specs.Needed.{GetsStepAnywhere, Needed}
+use Rattle.cluster_types.specs.NeededActions.{GetsStepAnywhere, Needed}
 use Rattle.cluster_types.specs.Numbers.{is_earlier}
 use Rattle.cluster_types.specs.Precedence.{gives_role, is_migrating, is_parted, parts_first, takes_or_probes}
 use Rattle.cluster_types.specs.Tables.{Targets}

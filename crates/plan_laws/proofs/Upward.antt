@@ -11,7 +11,7 @@ use Rattle.cluster_types.specs.declared.journal.Event.{Event}
 use Rattle.cluster_types.specs.declared.leaf.Op.TheVariants as op
 use Rattle.cluster_types.specs.declared.leaf.Role.TheVariants as role
 use Rattle.cluster_types.specs.Fields.{is_promotable}
-use Rattle.cluster_types.specs.Needed.{Needed, sent}
+use Rattle.cluster_types.specs.NeededActions.{Needed, sent}
 use Rattle.cluster_types.specs.Numbers.{is_place_before, is_earlier, action_place}
 use Rattle.cluster_types.specs.Precedence.{comes_first_in_cell, demotes_first, fences_first, is_across, is_migrating, is_ordered, is_serialize, is_serialized, migrates_first, must_precede, parts_first, probes_first, stops_first}
 use Rattle.cluster_types.specs.Tables.{Targets, holds_role}

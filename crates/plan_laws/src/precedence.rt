@@ -8,7 +8,7 @@ ghost use Rattle.cluster_types.specs.declared.journal.Promotion.{Promotion as Pr
 ghost use Rattle.cluster_types.specs.declared.leaf.Role.TheVariants as role;
 ghost use Rattle.cluster_types.specs.declared.placement.Placed.{Placed as PlacedOf};
 ghost use Rattle.cluster_types.specs.Fields.{is_promotable};
-ghost use Rattle.cluster_types.specs.Needed.{Needed};
+ghost use Rattle.cluster_types.specs.NeededActions.{Needed};
 ghost use Rattle.cluster_types.specs.Numbers.{is_earlier};
 ghost use Rattle.cluster_types.specs.Plans.{IsPlan, precedes_by_number};
 ghost use Rattle.cluster_types.specs.Precedence.{must_precede};

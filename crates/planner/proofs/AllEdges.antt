@@ -13,13 +13,14 @@ use Rattle.cluster_types.specs.Plans.{is_of_either, most_edges}
 use Rattle.cluster_types.specs.Graphs.{LeadsByGates}
 use Rattle.cluster_types.specs.Precedence.{is_serialize, is_serialized, must_precede}
 use Rattle.planner.specs.declared.precedence.sides.Join.{Join}
-use Rattle.planner.specs.Chains.{serialized_at, serialized_of}
-use Rattle.planner.specs.Gates.{edges_of_joins}
+use Rattle.planner.specs.Inner.Chains.{serialized_at, serialized_of}
+use Rattle.planner.specs.Inner.Gates.{edges_of_joins}
 use Rattle.planner.specs.Inner.Groups.{AddsGroup}
 use Rattle.planner.specs.Joins.{joins_of}
 use Rattle.planner.specs.Inner.Places.{places_of}
-use Rattle.planner.specs.Precede.{AreEdges, first_gates, most_positions}
-use Rattle.planner.specs.Rooms.{Builds, IsActionWithin, rows_of_join, width_of_join}
+use Rattle.planner.specs.PrecedenceEdges.{AreEdges, first_gates, most_positions}
+use Rattle.planner.specs.Inner.Rooms.{Builds, rows_of_join, width_of_join}
+use Rattle.planner.specs.ActionNames.{IsActionWithin}
 use Rattle.planner.specs.Inner.Serials.{most_serial, serial_room}
 use Rattle.planner.proofs.AllJoins.{JoinFits, leads_precede, whole_group}
 use Rattle.planner.proofs.Bound.{joins_few_apart, most_other}

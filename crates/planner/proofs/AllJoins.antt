@@ -10,7 +10,7 @@ use Rattle.cluster_types.specs.Graphs.{LeadsByGates}
 use Rattle.cluster_types.specs.Precedence.{both, is_one_cell, is_serialized, must_precede}
 use Rattle.planner.specs.declared.precedence.sides.Join.{Join}
 use Rattle.planner.specs.declared.precedence.sides.Side.{Side}
-use Rattle.planner.specs.Gates.{edges_of_joins, gates_upto, join_edges, key_at}
+use Rattle.planner.specs.Inner.Gates.{edges_of_joins, gates_upto, join_edges, key_at}
 use Rattle.planner.specs.Joins.{is_joined, joins_of, side_key_of}
 use Rattle.planner.specs.Inner.Groups.{IsGroup}
 use Rattle.planner.proofs.Groups.{group_after, group_says, no_group}

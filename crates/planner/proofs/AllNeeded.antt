@@ -15,7 +15,7 @@ use Rattle.cluster_types.specs.declared.leaf.Op.TheVariants as op
 use Rattle.cluster_types.specs.declared.leaf.Role.TheVariants as role
 use Rattle.cluster_types.specs.CellStates.{cell_state, is_monitor_running}
 use Rattle.cluster_types.specs.Fields.{monitors}
-use Rattle.cluster_types.specs.Needed.{NeededBeforeMigration, GetsAny, GetsStep, GetsStepAnywhere, Migrates, Needed, NeedsMonitor, fence, is_monitor_for, kept, monitor, probe, sent, step, steps_of, taken_in}
+use Rattle.cluster_types.specs.NeededActions.{NeededBeforeMigration, GetsAny, GetsStep, GetsStepAnywhere, Migrates, Needed, NeedsMonitor, fence, is_monitor_for, kept, monitor, probe, sent, step, steps_of, taken_in}
 use Rattle.cluster_types.specs.Pins.{is_pinned, is_unprobed_state}
 use Rattle.cluster_types.specs.Precedence.{is_same_op}
 use Rattle.cluster_types.specs.Rights.{is_to_be_fenced}
@@ -24,8 +24,8 @@ use Rattle.cluster_types.proofs.NeededLaws.{bounds_of_first}
 use Rattle.loops.specs.FirstLoops.{AllJoin, AllOrder}
 use Rattle.loops.proofs.StepPlaces.{same_op}
 use Rattle.planner.specs.Inner.Actions.{cell_actions, free_leaf_actions, includes_op, is_elsewhere, is_filled, is_undisturbed, leaves_actions, migrations_of, migrations_to, leaf_monitor, monitors_in, probes_in, migration_source, stays_needed, step_action, steps_in, wanted}
-use Rattle.planner.specs.Cycling.{MarkedCells}
-use Rattle.planner.specs.declared.needed.steps.CellNeed.{CellNeed}
+use Rattle.planner.specs.CycledCells.{MarkedCells}
+use Rattle.planner.specs.declared.needed_actions.steps.CellNeed.{CellNeed}
 use Rattle.planner.proofs.Conditions.{in_unless, of_if, of_one, of_unless}
 use Rattle.planner.proofs.Harmless.{free_of, is_free_where}
 use Rattle.planner.proofs.SentFrom.{is_sent_from, sent_from}
@@ -90,7 +90,7 @@ module _ (c : Cluster) (es : List Event) (targets : Targets) where
         is_sent_from c es targets need marked told r b.0 n (free r) record {
           allowed = g.allowed;
           uncloned = g.uncloned;
-          plain = g.plain;
+          not_promotable = g.not_promotable;
           is_free =
               free_is r b.0
               ∙ is_free_where c es targets touched known r ordered joined record { orders = g.orders; colocations = g.colocations };
@@ -108,8 +108,8 @@ module _ (c : Cluster) (es : List Event) (targets : Targets) where
         record {
           allowed = l.allowed;
           uncloned = l.uncloned;
-          plain = l.plain;
-          managed = managed_of r n op.Stop l.stopped;
+          not_promotable = l.not_promotable;
+          not_pinned = managed_of r n op.Stop l.stopped;
           running = l.running;
           nowhere_else = l.nowhere_else;
           elsewhere = λ s. both_ways (n == m) away (eq-eqb n m (sym s));

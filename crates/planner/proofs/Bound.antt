@@ -14,10 +14,11 @@ use Rattle.cluster_types.specs.Plans.{is_of_either}
 use Rattle.cluster_types.specs.Precedence.{CellOf, inverse, is_serialize, is_giving}
 use Rattle.planner.specs.declared.precedence.sides.Join.{Join}
 use Rattle.planner.specs.declared.precedence.sides.Side.TheVariants as side
-use Rattle.planner.specs.Gates.{chain_edges, chain_step, edge, edge_in, edge_out, gate_edges_at, edges_of_joins, gates_upto, join_edges, key_at, next_gate, then_step}
-use Rattle.planner.specs.Joins.{colocation_joins, first_joins, inverse_join, join, joins_of, order_joins, own_join, stands}
+use Rattle.planner.specs.Inner.Gates.{chain_edges, chain_step, edge, edge_in, edge_out, gate_edges_at, edges_of_joins, gates_upto, join_edges, key_at, next_gate, then_step}
+use Rattle.planner.specs.Joins.{colocation_joins, first_joins, inverse_join, join, joins_of, order_joins, own_join}
+use Rattle.planner.specs.Inner.Joins.{stands}
 use Rattle.planner.specs.Inner.Places.{places_of}
-use Rattle.planner.specs.Rooms.{rows_of_join, width_of_join}
+use Rattle.planner.specs.Inner.Rooms.{rows_of_join, width_of_join}
 use Rattle.planner.proofs.BuildsMore.{edges-append, few_edges}
 use Rattle.planner.proofs.Counts.{rule_few, rule_few_swapped}
 

@@ -11,9 +11,9 @@ use Rattle.cluster_types.specs.declared.journal.Action.{Action}
 use Rattle.cluster_types.specs.declared.journal.Action.TheVariants.{Fence, Probe, Operation, MigrateTo, MigrateFrom}
 use Rattle.cluster_types.specs.declared.leaf.Op.TheVariants as op
 use Rattle.cluster_types.specs.Precedence.{change_cell}
-use Rattle.planner.specs.Chains.{changed_node, is_at, changed_node_at}
+use Rattle.planner.specs.Inner.Chains.{changed_node, is_at, changed_node_at}
 use Rattle.planner.specs.Inner.Index.{with_place}
-use Rattle.planner.specs.Rooms.{IsActionWithin}
+use Rattle.planner.specs.ActionNames.{IsActionWithin}
 use Rattle.planner.proofs.IndexMore.{empty_at, filter_last, set_on}
 
 abbrev AreAt : (ℕ → Option ℕ) → ℕ → List (List ℕ) → List ℕ → Type 0

@@ -11,9 +11,10 @@ use Rattle.edges.specs.declared.edge.Edge.{Edge}
 use Rattle.cluster_types.specs.declared.journal.Action.{Action}
 use Rattle.cluster_types.specs.Precedence.{CellOf}
 use Rattle.planner.specs.declared.precedence.sides.Join.{Join}
-use Rattle.planner.specs.Gates.{edge_in, edge_out, gate_edges_at, edges_of_joins, gates_upto, join_edges, key_at}
-use Rattle.planner.specs.Joins.{first_joins, side_key_of, one_if, stands}
-use Rattle.planner.specs.Rooms.{Builds, rows_of, rows_of_join, width_of, width_of_join}
+use Rattle.planner.specs.Inner.Gates.{edge_in, edge_out, gate_edges_at, edges_of_joins, gates_upto, join_edges, key_at}
+use Rattle.planner.specs.Joins.{first_joins, side_key_of}
+use Rattle.planner.specs.Inner.Joins.{one_if, stands}
+use Rattle.planner.specs.Inner.Rooms.{Builds, rows_of, rows_of_join, width_of, width_of_join}
 
 module _ (c : Cluster) (actions : List Action) (leaves width : Join → ℕ) (places : Join → List ℕ) where
   upto-append : (base : ℕ) (xs ys : List Join)

@@ -5,8 +5,8 @@ use Rattle.std.specs.Option.{option_map_or}
 use Rattle.std.proofs.lemmas.Bool.{eqb-true}
 use Rattle.cluster_types.specs.declared.journal.Action.{Action}
 use Rattle.cluster_types.specs.Precedence.{CellOf, cell_of, change_cell}
-use Rattle.planner.specs.Chains.{changed_node, changes_at, is_at, is_cell_on, changed_node_at}
-use Rattle.planner.specs.Gates.{InChain, StandsBefore, here, later}
+use Rattle.planner.specs.Chains.{changes_at, is_cell_on, InChain, StandsBefore, here, later}
+use Rattle.planner.specs.Inner.Chains.{changed_node, is_at, changed_node_at}
 use Rattle.planner.specs.Joins.{in_leaf}
 use Rattle.lemmas.proofs.Members.{in_filter, of_filter}
 

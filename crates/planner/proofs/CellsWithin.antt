@@ -8,7 +8,8 @@ use Rattle.cluster_types.specs.declared.leaf.Op.TheVariants as op
 use Rattle.cluster_types.specs.Fields.{copies}
 use Rattle.cluster_types.specs.Precedence.{CellOf, cell_of, change_cell, gives_any, is_same_op, op_cell, probe_cell, start_cell}
 use Rattle.planner.specs.Joins.{alone, before_monitor, before_stop, by_leaf, fence_cell, in_leaf, send_cell, take_cell, take_in_cell, same_join_cell}
-use Rattle.planner.specs.Rooms.{IsActionWithin, nodes_if}
+use Rattle.planner.specs.Inner.Rooms.{nodes_if}
+use Rattle.planner.specs.ActionNames.{IsActionWithin}
 
 module _ (c : Cluster) where
   abbrev pub In : ℕ → ℕ → Option CellOf → Type 0

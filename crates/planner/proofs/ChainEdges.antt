@@ -5,7 +5,7 @@ use Rattle.edges.specs.declared.edge.Edge.{Edge}
 use Rattle.lemmas.proofs.Searches.{of_none}
 use Rattle.cluster_types.proofs.Few.{of_one, of_two}
 use Rattle.cluster_types.proofs.GateGroups.{IsOwn, action, gate}
-use Rattle.planner.specs.Gates.{chain_edges, chain_step, edge, next_gate, then_step}
+use Rattle.planner.specs.Inner.Gates.{chain_edges, chain_step, edge, next_gate, then_step}
 use Rattle.lemmas.proofs.Members.{in_rest}
 
 module _ (actions : ℕ) (is_first is_then : ℕ → Bool) where

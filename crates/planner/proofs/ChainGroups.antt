@@ -3,7 +3,8 @@ use Rattle.std.proofs.Common.{arith, ◌≡◌, ◌<◌, ◌≤◌, ◌+◌, ◌
 use Rattle.std.proofs.lemmas.List.Elements.{Contains-append_cases}
 use Rattle.edges.specs.declared.edge.Edge.{Edge}
 use Rattle.cluster_types.specs.Graphs.{LeadsByGates}
-use Rattle.planner.specs.Gates.{InChain, StandsBefore, here, later, chain_edges, chain_step, last_gate, next_gate, then_step}
+use Rattle.planner.specs.Inner.Gates.{chain_edges, chain_step, last_gate, next_gate, then_step}
+use Rattle.planner.specs.Chains.{InChain, StandsBefore, here, later}
 use Rattle.lemmas.proofs.Members.{head_or_rest, in_rest}
 use Rattle.planner.specs.Inner.Groups.{IsGroup}
 use Rattle.planner.proofs.Groups.{none_leads, own_ends}

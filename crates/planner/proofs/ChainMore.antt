@@ -2,7 +2,7 @@
 use Rattle.std.proofs.Common.{arith, ◌≡◌, ◌<◌, ◌≤◌, ◌+◌, ◌++◌, if◌then◌else◌, ℕ, Bool, true, false, List, [], ◌∷◌, length, get_or, take, refl, sym, ap, ◌∙◌}
 use Rattle.std.proofs.lemmas.List.{append-nil, append_assoc, take_more}
 use Rattle.edges.specs.declared.edge.Edge.{Edge}
-use Rattle.planner.specs.Gates.{chain_edges, chain_step, last_gate, next_gate, then_step}
+use Rattle.planner.specs.Inner.Gates.{chain_edges, chain_step, last_gate, next_gate, then_step}
 
 module _ (f t : ℕ → Bool) where
   abbrev step : ℕ → ℕ → List Edge

@@ -2,7 +2,7 @@
 use Rattle.std.proofs.Common.{arith, ◌≡◌, ◌⊎◌, inl, inr, ℕ, List, [], ◌∷◌, AllPairs, Contains, sym, subst, ◌∙◌}
 use Rattle.lemmas.proofs.Members.{head_or_rest}
 use Rattle.lemmas.proofs.Ordered.{first_earlier, rest_in_order}
-use Rattle.planner.specs.Gates.{StandsBefore, here, later}
+use Rattle.planner.specs.Chains.{StandsBefore, here, later}
 
 module _ (Comes : ℕ → ℕ → Type 0) (strict : (x y : ℕ) → Comes x y → Comes y x → ⊥) where
   pub stands_comes : (x y : ℕ) (places : List ℕ) → AllPairs Comes places → StandsBefore x y places → Comes x y

@@ -10,8 +10,8 @@ use Rattle.edges.specs.declared.edge.Edge.{Edge}
 use Rattle.cluster_types.specs.declared.journal.Action.{Action}
 use Rattle.cluster_types.specs.declared.rules.Order.{Order}
 use Rattle.cluster_types.specs.Precedence.{CellOf, cell_of, change_cell}
-use Rattle.planner.specs.Chains.{IsChained, changes_at, is_cell_on}
-use Rattle.planner.specs.Gates.{InChain, chain_edges, last_gate}
+use Rattle.planner.specs.Chains.{IsChained, changes_at, is_cell_on, InChain}
+use Rattle.planner.specs.Inner.Gates.{chain_edges, last_gate}
 use Rattle.planner.specs.Inner.Groups.{AddsGroup, IsGroup}
 use Rattle.planner.specs.Joins.{in_leaf}
 use Rattle.planner.proofs.Bound.{chain_few, weight}

@@ -4,7 +4,7 @@ use Rattle.std.proofs.lemmas.List.Elements.{Contains-append_cases, Contains-appe
 use Rattle.edges.specs.declared.edge.Edge.{Edge}
 use Rattle.cluster_types.specs.Graphs.{LeadsByGates, direct, through}
 use Rattle.cluster_types.proofs.GateGroups.{more_edges, own_gate}
-use Rattle.planner.specs.Gates.{chain_edges, chain_step, edge, next_gate, then_step}
+use Rattle.planner.specs.Inner.Gates.{chain_edges, chain_step, edge, next_gate, then_step}
 use Rattle.planner.proofs.ChainEdges.{IsChainEdge, IsHeadEdge, to_then, into, onward, chain_edge, has_first, has_then, is_head, next_is, next_of, next_same}
 
 module _ (actions : ℕ) (is_first is_then : ℕ → Bool) where

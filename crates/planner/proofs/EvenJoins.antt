@@ -10,7 +10,7 @@ use Rattle.cluster_types.specs.Precedence.{is_serialize, is_giving, inverse}
 use Rattle.planner.specs.declared.precedence.sides.Join.{Join}
 use Rattle.planner.specs.declared.precedence.sides.Side.TheVariants as side
 use Rattle.planner.specs.Joins.{colocation_joins, first_joins, inverse_join, join, joins_of, order_joins}
-use Rattle.planner.specs.Rooms.{IsEven}
+use Rattle.planner.specs.Inner.Rooms.{IsEven}
 use Rattle.lemmas.proofs.Members.{of_flat}
 use Rattle.lemmas.proofs.Searches.{of_none}
 

@@ -11,7 +11,7 @@ use Rattle.cluster_types.specs.Numbers.{StepsHaveNoLoop, rank, step_of}
 use Rattle.cluster_types.specs.Tables.{Targets}
 use Rattle.loops.specs.FirstLoops.{AllOrder}
 use Rattle.lemmas.proofs.Members.{at_head, in_filter, in_none, in_rest, of_filter}
-use Rattle.planner.specs.Cycling.{AreCycling, MarkedCells, NoneComesBack, is_cycling, with_order, with_orders}
+use Rattle.planner.specs.CycledCells.{AreCycling, MarkedCells, NoneComesBack, is_cycling, with_order, with_orders}
 use Rattle.planner.specs.Inner.Levels.{at_level, below_level, is_at_level}
 use Rattle.planner.proofs.FallingOrders.{then_stops_first}
 

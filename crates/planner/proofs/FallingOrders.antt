@@ -13,7 +13,7 @@ use Rattle.loops.specs.FirstLoops.{AllOrder}
 use Rattle.cluster_types.proofs.OpLaws.{stop_takes}
 use Rattle.lemmas.proofs.Members.{head_or_rest, in_filter, in_flat, in_map, in_rest}
 use Rattle.loops.proofs.OneRanking.{rank_rises}
-use Rattle.planner.specs.Cycling.{FallByRank, NoneComesBack, is_cycling}
+use Rattle.planner.specs.CycledCells.{FallByRank, NoneComesBack, is_cycling}
 use Rattle.planner.proofs.OrderWords.{Cycles, cycles_of}
 
 abbrev stops_link : Order → Link

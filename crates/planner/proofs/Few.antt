@@ -19,13 +19,13 @@ use Rattle.cluster_types.specs.declared.leaf.Op.TheVariants as op
 use Rattle.cluster_types.specs.declared.rules.Colocation.{Colocation}
 use Rattle.cluster_types.specs.declared.rules.Order.{Order}
 use Rattle.cluster_types.specs.Fields.{monitors}
-use Rattle.cluster_types.specs.Needed.{NeededBeforeMigration, Needed, fence, kept, monitor, probe, sent, step, taken_in}
+use Rattle.cluster_types.specs.NeededActions.{NeededBeforeMigration, Needed, fence, kept, monitor, probe, sent, step, taken_in}
 use Rattle.cluster_types.specs.Plans.{is_of_either, most_edges}
 use Rattle.cluster_types.specs.Tables.{Targets, targets_of}
 use Rattle.cluster_types.specs.Valid.{IsValid}
 use Rattle.planner.specs.Inner.Leaves.{action_leaf}
 use Rattle.planner.specs.Inner.Places.{is_of_leaf}
-use Rattle.planner.specs.Rooms.{IsActionWithin}
+use Rattle.planner.specs.ActionNames.{IsActionWithin}
 use Rattle.planner.proofs.Counts.{both_counts}
 use Rattle.planner.proofs.NeededWithin.{needed_within}
 use Rattle.plan_laws.proofs.CellSteps.{is_step}

@@ -4,7 +4,8 @@ use Rattle.cluster_types.specs.declared.cluster.Cluster.{Cluster}
 use Rattle.cluster_types.specs.declared.journal.Action.{Action}
 use Rattle.cluster_types.specs.declared.journal.Action.TheVariants.{Fence, Probe, Operation, MigrateTo, MigrateFrom}
 use Rattle.cluster_types.specs.declared.leaf.Op.TheVariants as op
-use Rattle.planner.specs.Joins.{first_joins, stands}
+use Rattle.planner.specs.Joins.{first_joins}
+use Rattle.planner.specs.Inner.Joins.{stands}
 
 pub few : (c : Cluster) (actions : List Action) (x : Action) → stands c actions first_joins x ≤ 5
 few c actions (Fence n) = omega arith

@@ -11,13 +11,13 @@ use Rattle.cluster_types.specs.declared.cluster.Cluster.{Cluster}
 use Rattle.cluster_types.specs.declared.journal.Event.{Event}
 use Rattle.cluster_types.specs.CellStates.{cell_state}
 use Rattle.cluster_types.specs.Fields.{copies}
-use Rattle.cluster_types.specs.Needed.{can_cycle}
+use Rattle.cluster_types.specs.NeededActions.{can_cycle}
 use Rattle.cluster_types.specs.Tables.{Targets}
 use Rattle.cluster_types.specs.Terms as terms
 use Rattle.planner.specs.Inner.ByNeeds as by_needs
-use Rattle.planner.specs.Cycling.{MarkedCells, first_marks}
+use Rattle.planner.specs.CycledCells.{MarkedCells, first_marks}
 use Rattle.planner.specs.Inner.Levels.{AreNeeds, need_in}
-use Rattle.planner.specs.declared.needed.steps.CellNeed.{CellNeed}
+use Rattle.planner.specs.declared.needed_actions.steps.CellNeed.{CellNeed}
 
 -- one leaf more
 pub row_more : (all : MarkedCells) (k r n : ℕ) (now after here : Bool) → now ≡ (nat_lt r k && all r n) → after ≡ (now || r == k && here)

@@ -5,11 +5,11 @@ use Rattle.cluster_types.specs.declared.cluster.Cluster.{Cluster}
 use Rattle.cluster_types.specs.declared.journal.Event.{Event}
 use Rattle.cluster_types.specs.declared.leaf.Op.TheVariants.{Stop}
 use Rattle.cluster_types.specs.declared.rules.Order.{Order}
-use Rattle.cluster_types.specs.Needed.{Cycled}
+use Rattle.cluster_types.specs.NeededActions.{Cycled}
 use Rattle.cluster_types.specs.Numbers.{StepsHaveNoLoop, rank, step_of}
 use Rattle.cluster_types.specs.Tables.{Targets}
 use Rattle.loops.specs.FirstLoops.{AllOrder}
-use Rattle.planner.specs.Cycling.{MarkedCells, first_marks, with_orders}
+use Rattle.planner.specs.CycledCells.{MarkedCells, first_marks, with_orders}
 use Rattle.planner.specs.Inner.Levels.{below_level}
 use Rattle.planner.proofs.FallingLevels.{are_cycling, below_apart}
 use Rattle.planner.proofs.MarksClosed.{last_closed}

@@ -14,7 +14,7 @@ use Rattle.cluster_types.specs.declared.rules.Order.{Order}
 use Rattle.cluster_types.specs.declared.rules.OrderKind.{OrderKind}
 use Rattle.cluster_types.specs.declared.rules.OrderKind.TheVariants as kind
 use Rattle.cluster_types.specs.Choice.{is_separation}
-use Rattle.cluster_types.specs.Needed.{GetsStepAnywhere, IsHarmlessColocation, IsHarmlessOrder}
+use Rattle.cluster_types.specs.NeededActions.{GetsStepAnywhere, IsHarmlessColocation, IsHarmlessOrder}
 use Rattle.cluster_types.specs.Precedence.{is_same_op, is_serialize}
 use Rattle.cluster_types.specs.Tables.{Targets}
 use Rattle.loops.specs.FirstLoops.{AllJoin, AllOrder}

@@ -9,10 +9,11 @@ use Rattle.cluster_types.specs.declared.journal.Action.{Action}
 use Rattle.cluster_types.specs.Precedence.{CellOf}
 use Rattle.planner.specs.declared.precedence.sides.Join.{Join}
 use Rattle.planner.specs.declared.precedence.sides.Side.{Side}
-use Rattle.planner.specs.Gates.{key_at}
+use Rattle.planner.specs.Inner.Gates.{key_at}
 use Rattle.planner.specs.Joins.{side_key_of}
 use Rattle.planner.specs.Inner.Places.{all_places, is_of_leaf, leaf_places, places_by, places_of, rule_places, side_leaf}
-use Rattle.planner.specs.Rooms.{IsEven, IsActionWithin, rows_of, width_of}
+use Rattle.planner.specs.Inner.Rooms.{IsEven, rows_of, width_of}
+use Rattle.planner.specs.ActionNames.{IsActionWithin}
 use Rattle.planner.proofs.JoinGroups.{Fits}
 use Rattle.planner.proofs.KeysRoom.{place_within}
 use Rattle.planner.proofs.LeafKeys.{of_side}

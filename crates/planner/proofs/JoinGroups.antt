@@ -7,7 +7,7 @@ use Rattle.edges.specs.declared.edge.Edge.{Edge}
 use Rattle.cluster_types.specs.Graphs.{LeadsByGates, direct, through}
 use Rattle.cluster_types.specs.Precedence.{CellOf, both, is_one_cell}
 use Rattle.cluster_types.proofs.GateGroups.{IsOwn, action, gate}
-use Rattle.planner.specs.Gates.{edge, edge_in, edge_out, gate_edges_at, gate_of, join_edges}
+use Rattle.planner.specs.Inner.Gates.{edge, edge_in, edge_out, gate_edges_at, gate_of, join_edges}
 use Rattle.lemmas.proofs.Members.{in_flat, of_flat}
 use Rattle.planner.specs.Inner.Groups.{IsGroup}
 use Rattle.planner.proofs.Groups.{own_ends}

@@ -3,10 +3,11 @@ use Rattle.std.proofs.Common.{arith, ◌≡◌, true, List, length, Contains}
 use Rattle.std.specs.List.{list_any}
 use Rattle.cluster_types.specs.declared.cluster.Cluster.{Cluster}
 use Rattle.cluster_types.specs.declared.journal.Action.{Action}
-use Rattle.planner.specs.Gates.{edges_of_joins, gates_upto}
+use Rattle.planner.specs.Inner.Gates.{edges_of_joins, gates_upto}
 use Rattle.planner.specs.Joins.{joins_of}
 use Rattle.planner.specs.Inner.Places.{places_of}
-use Rattle.planner.specs.Rooms.{IsActionWithin, rows_of_join, width_of_join}
+use Rattle.planner.specs.Inner.Rooms.{rows_of_join, width_of_join}
+use Rattle.planner.specs.ActionNames.{IsActionWithin}
 use Rattle.planner.proofs.AllJoins.{joined_at, joins_group}
 use Rattle.planner.proofs.EvenJoins.{each_even}
 use Rattle.planner.specs.Inner.Groups.{IsGroup}

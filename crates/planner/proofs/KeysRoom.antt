@@ -9,9 +9,10 @@ use Rattle.cluster_types.specs.declared.journal.Action.{Action}
 use Rattle.cluster_types.specs.Precedence.{CellOf}
 use Rattle.planner.specs.declared.precedence.sides.Join.{Join}
 use Rattle.planner.specs.declared.precedence.sides.Side.{Side}
-use Rattle.planner.specs.Gates.{gate_of, key_at}
+use Rattle.planner.specs.Inner.Gates.{gate_of, key_at}
 use Rattle.planner.specs.Joins.{side_key_of}
-use Rattle.planner.specs.Rooms.{GatesHaveRoom, IsEven, IsActionWithin, rows_of, width_of}
+use Rattle.planner.specs.Inner.Rooms.{GatesHaveRoom, IsEven, rows_of, width_of}
+use Rattle.planner.specs.ActionNames.{IsActionWithin}
 use Rattle.planner.proofs.KeysWithin.{key_within}
 
 module _ (c : Cluster) (actions : List Action) (inside : (a : Action) → Contains actions a → IsActionWithin c a) where

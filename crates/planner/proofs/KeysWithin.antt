@@ -11,7 +11,8 @@ use Rattle.planner.specs.declared.precedence.sides.Side.{Side}
 use Rattle.planner.specs.declared.precedence.sides.Side.TheVariants as side
 use Rattle.cluster_types.specs.Precedence.{as_earlier, as_later, cell_of, gives_any, gives_role, is_migrating, op_cell, probe_cell, takes_or_probes}
 use Rattle.planner.specs.Joins.{earlier_taker, side_key_of, later_demote, later_taker, take_cell}
-use Rattle.planner.specs.Rooms.{IsActionWithin, rows_of, width_of}
+use Rattle.planner.specs.Inner.Rooms.{rows_of, width_of}
+use Rattle.planner.specs.ActionNames.{IsActionWithin}
 use Rattle.planner.proofs.CellsWithin.{Here, In, alone_in, before_monitor_here, before_stop_here, by_leaf_in, fence_in, gives_here, in_leaf_in, op_here, probe_here, send_in, start_here, take_here, take_in_in, together_in}
 
 module _ (c : Cluster) where

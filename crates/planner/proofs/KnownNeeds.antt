@@ -12,12 +12,12 @@ use Rattle.cluster_types.specs.declared.states.Cell.{Cell}
 use Rattle.cluster_types.specs.Pins.{is_pinned, is_pinned_in, pin_of}
 use Rattle.cluster_types.specs.Rights.{may_start}
 use Rattle.cluster_types.specs.Tables.{targets_of}
-use Rattle.cluster_types.specs.Unpacked.{cell_at, states_of}
+use Rattle.cluster_types.specs.UnpackedStates.{cell_at, states_of}
 use Rattle.cluster_types.proofs.PinnedLeaves.{pin_known}
 use Rattle.cluster_types.proofs.StatesKept.{cell_kept, slice_get-rows}
 use Rattle.planner.specs.Inner.Knowing.{need_by, need_from, needs_by}
 use Rattle.planner.specs.Inner.Levels.{AreNeeds, need_at, need_in, no_need}
-use Rattle.planner.specs.declared.needed.steps.CellNeed.{CellNeed}
+use Rattle.planner.specs.declared.needed_actions.steps.CellNeed.{CellNeed}
 
 module _ (c : Cluster) (es : List Event) (ps : List Promotion) (cells : List Cell) (pins : List (Option Pin)) (table : Table) (starts : Bool)
     (told : cells ≡ (states_of c es ps).cells) (pinned : pins ≡ map (pin_of c es) (range_with_len 0 (length c.leaves)))

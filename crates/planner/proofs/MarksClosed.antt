@@ -8,10 +8,10 @@ use Rattle.lemmas.proofs.Members.{at_head, head_or_rest, in_none, in_range, in_r
 use Rattle.cluster_types.specs.declared.cluster.Cluster.{Cluster}
 use Rattle.cluster_types.specs.declared.journal.Event.{Event}
 use Rattle.cluster_types.specs.declared.rules.Order.{Order}
-use Rattle.cluster_types.specs.Needed.{OrderMayCycle, can_cycle, has_disturbing, steps_at}
+use Rattle.cluster_types.specs.NeededActions.{OrderMayCycle, can_cycle, has_disturbing, steps_at}
 use Rattle.cluster_types.specs.LeastSets.{IsClosedUnderCycling}
 use Rattle.cluster_types.specs.Tables.{Targets, is_in_scope}
-use Rattle.planner.specs.Cycling.{MarkedCells, NoneComesBack, first_marks, is_cycling, is_disturbed, may_be_marked, with_order, with_orders}
+use Rattle.planner.specs.CycledCells.{MarkedCells, NoneComesBack, first_marks, is_cycling, is_disturbed, may_be_marked, with_order, with_orders}
 use Rattle.planner.proofs.OrderWords.{cycling_of}
 
 module _ (c : Cluster) (es : List Event) (targets : Targets) where

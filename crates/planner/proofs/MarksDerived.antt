@@ -9,11 +9,11 @@ use Rattle.cluster_types.specs.declared.cluster.Cluster.{Cluster}
 use Rattle.cluster_types.specs.declared.journal.Event.{Event}
 use Rattle.cluster_types.specs.declared.rules.Order.{Order}
 use Rattle.cluster_types.specs.Fields.{copies}
-use Rattle.cluster_types.specs.Needed.{Cycled, by_copies, by_order, by_cycled, OrderMayCycle, can_cycle, has_disturbing, steps_at}
+use Rattle.cluster_types.specs.NeededActions.{Cycled, by_copies, by_order, by_cycled, OrderMayCycle, can_cycle, has_disturbing, steps_at}
 use Rattle.cluster_types.specs.Precedence.{role_given}
 use Rattle.cluster_types.specs.Tables.{Targets, holds_role, is_in_scope}
 use Rattle.cluster_types.specs.Terms.{active_count}
-use Rattle.planner.specs.Cycling.{MarkedCells, first_marks, is_cycling, is_disturbed, is_marked_by, may_be_marked, with_order, with_orders}
+use Rattle.planner.specs.CycledCells.{MarkedCells, first_marks, is_cycling, is_disturbed, is_marked_by, may_be_marked, with_order, with_orders}
 use Rattle.planner.proofs.OrderWords.{Cycles, cycles_of}
 
 module _ (c : Cluster) (es : List Event) (targets : Targets) where

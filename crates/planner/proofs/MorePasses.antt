@@ -7,7 +7,7 @@ use Rattle.cluster_types.specs.declared.cluster.Cluster.{Cluster}
 use Rattle.cluster_types.specs.declared.journal.Event.{Event}
 use Rattle.cluster_types.specs.declared.rules.Order.{Order}
 use Rattle.cluster_types.specs.Tables.{Targets}
-use Rattle.planner.specs.Cycling.{MarkedCells, with_order, with_orders}
+use Rattle.planner.specs.CycledCells.{MarkedCells, with_order, with_orders}
 use Rattle.planner.specs.Inner.Levels.{at_level, below_level}
 use Rattle.planner.proofs.FallingLevels.{orders_joined}
 

@@ -5,10 +5,10 @@ use Rattle.cluster_types.specs.declared.journal.Action.{Action}
 use Rattle.cluster_types.specs.declared.journal.Event.{Event}
 use Rattle.cluster_types.specs.declared.leaf.Op.TheVariants as op
 use Rattle.cluster_types.specs.declared.leaf.Role.TheVariants as role
-use Rattle.cluster_types.specs.Needed.{NeededBeforeMigration, Needed, fence, kept, monitor, probe, sent, step, taken_in}
+use Rattle.cluster_types.specs.NeededActions.{NeededBeforeMigration, Needed, fence, kept, monitor, probe, sent, step, taken_in}
 use Rattle.cluster_types.specs.Tables.{Targets}
 use Rattle.cluster_types.proofs.NeededLaws.{bounds_of_first}
-use Rattle.planner.specs.Rooms.{IsActionWithin}
+use Rattle.planner.specs.ActionNames.{IsActionWithin}
 
 module _ (c : Cluster) (es : List Event) (targets : Targets) where
   first_within : (a : Action) → NeededBeforeMigration c es targets a → IsActionWithin c a

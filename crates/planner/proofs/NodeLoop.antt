@@ -7,9 +7,10 @@ use Rattle.cluster_types.specs.declared.cluster.Cluster.{Cluster}
 use Rattle.edges.specs.declared.edge.Edge.{Edge}
 use Rattle.cluster_types.specs.declared.journal.Action.{Action}
 use Rattle.cluster_types.specs.declared.rules.Order.{Order}
-use Rattle.planner.specs.Chains.{IsChained, IsChainedSomewhere, changes_at, is_at, changed_node_at, node_places}
+use Rattle.planner.specs.Chains.{IsChained, changes_at}
+use Rattle.planner.specs.Inner.Chains.{IsChainedSomewhere, is_at, changed_node_at, node_places}
 use Rattle.planner.specs.Inner.Groups.{AddsGroup}
-use Rattle.planner.specs.Rooms.{IsActionWithin}
+use Rattle.planner.specs.ActionNames.{IsActionWithin}
 use Rattle.planner.proofs.Adding.{adds_after, adds_none, adds_says}
 use Rattle.planner.proofs.BucketsMore.{node_within}
 use Rattle.lemmas.proofs.Members.{of_filter}

@@ -17,12 +17,12 @@ use Rattle.cluster_types.specs.declared.states.CellState.{CellState}
 use Rattle.cluster_types.specs.declared.states.CellState.TheVariants as cell
 use Rattle.cluster_types.specs.declared.states.NodeState.{NodeState}
 use Rattle.cluster_types.specs.Fields.{monitors}
-use Rattle.cluster_types.specs.Needed.{steps_of}
+use Rattle.cluster_types.specs.NeededActions.{steps_of}
 use Rattle.cluster_types.specs.Pins.{is_unprobed_state}
 use Rattle.planner.specs.Inner.Actions.{all_fences, cell_actions, fences_in, free_leaf_actions, includes_op, is_elsewhere, is_filled, is_unclean_in, is_wanted, leaf_actions, leaves_actions, migrations_of, migrations_to, leaf_monitor, monitors_in, probes_in, migration_source, stays_needed, step_action, steps_in, wanted}
-use Rattle.planner.specs.Cycling.{MarkedCells}
+use Rattle.planner.specs.CycledCells.{MarkedCells}
 use Rattle.planner.specs.Inner.Levels.{steps_by}
-use Rattle.planner.specs.declared.needed.steps.CellNeed.{CellNeed}
+use Rattle.planner.specs.declared.needed_actions.steps.CellNeed.{CellNeed}
 use Rattle.planner.proofs.Conditions.{of_if, of_one}
 use Rattle.planner.proofs.PairsApart.{no_pairs, pair_more, pairs_if, pairs_joined, pairs_mapped, pairs_of_range, pairs_unless}
 

@@ -20,9 +20,9 @@ use Rattle.cluster_types.specs.CellStates.{cell_state}
 use Rattle.cluster_types.specs.Choice.{is_stopped_role}
 use Rattle.cluster_types.specs.Failures.{is_fail_stopped}
 use Rattle.cluster_types.specs.Fields.{copies, is_cloned, target_role_of}
-use Rattle.cluster_types.specs.Lawful.{IsLawful}
+use Rattle.cluster_types.specs.LawfulTables.{IsLawful}
 use Rattle.cluster_types.specs.May.{may_be_running}
-use Rattle.cluster_types.specs.Needed.{NeededBeforeMigration, Migrates, step}
+use Rattle.cluster_types.specs.NeededActions.{NeededBeforeMigration, Migrates, step}
 use Rattle.cluster_types.specs.Pins.{is_pinned}
 use Rattle.cluster_types.specs.Plans.{IsPlaced}
 use Rattle.cluster_types.specs.Tables.{Targets, is_somewhere, targets_of}
@@ -83,7 +83,7 @@ module _ (c : Cluster) (es : List Event) (ps : List Promotion) (placed : Placed)
   one_goal r n m p q one other =
       let here = bounds_of_first c es targets op.Start r m 0 role.Started one.started in
       let there = bounds_of_first c es targets op.Start r q 0 role.Started other.started in
-      one_target r m q here.0 one.uncloned one.managed here.1 there.1 (start_target r m one.started) (start_target r q other.started)
+      one_target r m q here.0 one.uncloned one.not_pinned here.1 there.1 (start_target r m one.started) (start_target r q other.started)
 
   pub one_source : (r n m p q : ℕ) → Migrates c es targets r n m → Migrates c es targets r p q → n ≡ p
   one_source r n m p q one other = on (p == n) refl

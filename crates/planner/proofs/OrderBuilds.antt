@@ -7,11 +7,11 @@ use Rattle.cluster_types.specs.declared.journal.Action.{Action}
 use Rattle.cluster_types.specs.declared.rules.Order.{Order}
 use Rattle.cluster_types.specs.Precedence.{is_serialize, is_giving}
 use Rattle.planner.specs.declared.precedence.sides.Join.{Join}
-use Rattle.planner.specs.Gates.{join_edges, key_at}
+use Rattle.planner.specs.Inner.Gates.{join_edges, key_at}
 use Rattle.planner.specs.Inner.Index.{IsIndex, places_in}
 use Rattle.planner.specs.Joins.{inverse_join, order_joins, own_join, takers_join, turned_join}
 use Rattle.planner.specs.Inner.Places.{places_of, rule_places}
-use Rattle.planner.specs.Rooms.{Builds, nodes_if, rows_of, width_of}
+use Rattle.planner.specs.Inner.Rooms.{Builds, nodes_if, rows_of, width_of}
 use Rattle.planner.proofs.BuildsMore.{builds_more}
 use Rattle.planner.proofs.IndexPlaces.{index_is}
 

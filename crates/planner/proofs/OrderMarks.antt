@@ -14,14 +14,14 @@ use Rattle.lemmas.proofs.Members.{in_range}
 use Rattle.cluster_types.specs.declared.cluster.Cluster.{Cluster}
 use Rattle.cluster_types.specs.declared.journal.Event.{Event}
 use Rattle.cluster_types.specs.declared.rules.Order.{Order}
-use Rattle.cluster_types.specs.Needed.{can_cycle, has_disturbing}
+use Rattle.cluster_types.specs.NeededActions.{can_cycle, has_disturbing}
 use Rattle.cluster_types.specs.Precedence.{role_given}
 use Rattle.cluster_types.specs.Tables.{Targets, holds_role, is_in_scope, target_holds}
 use Rattle.cluster_types.proofs.TableCells.{by_target}
 use Rattle.planner.specs.Inner.ByNeeds as by_needs
-use Rattle.planner.specs.Cycling.{MarkedCells, is_disturbed, is_marked_by, with_order}
+use Rattle.planner.specs.CycledCells.{MarkedCells, is_disturbed, is_marked_by, with_order}
 use Rattle.planner.specs.Inner.Levels.{AreNeeds, marks_in, steps_by}
-use Rattle.planner.specs.declared.needed.steps.CellNeed.{CellNeed}
+use Rattle.planner.specs.declared.needed_actions.steps.CellNeed.{CellNeed}
 
 any_flag : (p : ℕ → Bool) (xs : List ℕ) → list_any (λ b. b) (map p xs) ≡ list_any p xs
 any_flag p [] = refl

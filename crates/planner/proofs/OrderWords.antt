@@ -6,7 +6,7 @@ use Rattle.cluster_types.specs.declared.rules.Order.{Order}
 use Rattle.cluster_types.specs.declared.rules.OrderKind.TheVariants.{Mandatory}
 use Rattle.cluster_types.specs.Precedence.{is_mandatory_order, is_giving}
 use Rattle.cluster_types.proofs.OpLaws.{of_kind}
-use Rattle.planner.specs.Cycling.{is_cycling}
+use Rattle.planner.specs.CycledCells.{is_cycling}
 
 -- what is known of an order that may have cells cycled
 pub record Cycles (o : Order) : Type 0 where

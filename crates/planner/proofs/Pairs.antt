@@ -13,7 +13,7 @@ use Rattle.cluster_types.specs.Plans.{precedes_by_number}
 use Rattle.cluster_types.specs.Steps.{numbered}
 use Rattle.cluster_types.proofs.Paths.{before-computed, before-from_computed}
 use Rattle.plan_laws.proofs.LowerNumbers.{OneBelow, one_below}
-use Rattle.planner.specs.Precede.{AreEdges}
+use Rattle.planner.specs.PrecedenceEdges.{AreEdges}
 
 module _ (c : Cluster) (g : GraphOf) (is : IsGraph g) (are : AreEdges c g.actions (is_earlier c g.actions) g.edges) where
   abbrev at : ℕ → Action

@@ -8,11 +8,11 @@ use Rattle.cluster_types.specs.declared.rules.Colocation.{Colocation}
 use Rattle.cluster_types.specs.Choice.{is_separation}
 use Rattle.planner.specs.declared.precedence.sides.Join.{Join}
 use Rattle.planner.specs.declared.precedence.sides.Side.TheVariants as side
-use Rattle.planner.specs.Gates.{join_edges, key_at}
+use Rattle.planner.specs.Inner.Gates.{join_edges, key_at}
 use Rattle.planner.specs.Inner.Index.{IsIndex, places_in}
 use Rattle.planner.specs.Joins.{colocation_joins, join}
 use Rattle.planner.specs.Inner.Places.{places_of}
-use Rattle.planner.specs.Rooms.{Builds, rows_of, width_of}
+use Rattle.planner.specs.Inner.Rooms.{Builds, rows_of, width_of}
 use Rattle.planner.proofs.BuildsMore.{builds_more}
 use Rattle.planner.proofs.IndexPlaces.{index_is}
 

@@ -15,12 +15,12 @@ use Rattle.cluster_types.specs.declared.states.CellState.TheVariants as cell
 use Rattle.cluster_types.specs.CellStates.{cell_state, is_blocked, is_left_open, last_outcome}
 use Rattle.cluster_types.specs.Fields.{is_cloned, is_promotable, may_migrate}
 use Rattle.cluster_types.specs.May.{may_be_running, may_be_promoted}
-use Rattle.cluster_types.specs.Needed.{GetsStep}
+use Rattle.cluster_types.specs.NeededActions.{GetsStep}
 use Rattle.cluster_types.specs.NodeStates.{is_online}
 use Rattle.cluster_types.specs.Tables.{Targets}
 use Rattle.planner.specs.Inner.Actions.{first_node, is_alone, is_on_state, is_source, may_be_sent, source_at, migration_source, steps_in}
-use Rattle.planner.specs.Cycling.{MarkedCells}
-use Rattle.planner.specs.declared.needed.steps.CellNeed.{CellNeed}
+use Rattle.planner.specs.CycledCells.{MarkedCells}
+use Rattle.planner.specs.declared.needed_actions.steps.CellNeed.{CellNeed}
 use Rattle.planner.proofs.StepTests.{found_is, has_it, it_is, only_found}
 use Rattle.planner.proofs.StepsGot.{Tells, gets, got}
 
@@ -62,7 +62,7 @@ module _ (c : Cluster) (es : List Event) (targets : Targets) where
   pub record Leaves (r n : ℕ) (free : Bool) : Type 0 where
     pub allowed : may_migrate c r ≡ true
     pub uncloned : is_cloned c r ≡ false
-    pub plain : is_promotable c r ≡ false
+    pub not_promotable : is_promotable c r ≡ false
     pub is_free : free ≡ true
     pub within : n < length c.nodes
     pub running : cell_state c r n es ≡ cell.On
@@ -99,7 +99,7 @@ module _ (c : Cluster) (es : List Event) (targets : Targets) where
         record {
           allowed = sooner (may_migrate c r) _ two;
           uncloned = not-true (is_cloned c r) (later (may_migrate c r) _ two);
-          plain = not-true (is_promotable c r) (later (may_migrate c r && not (is_cloned c r)) _ three);
+          not_promotable = not-true (is_promotable c r) (later (may_migrate c r && not (is_cloned c r)) _ three);
           is_free = later (may_migrate c r && not (is_cloned c r) && not (is_promotable c r)) free m;
           within = ln;
           running = sym (state_known n ln) ∙ on_state (need r n).state (later (is_alone c need r n) _ alone);
@@ -133,7 +133,7 @@ module _ (c : Cluster) (es : List Event) (targets : Targets) where
         let sent : may_be_sent c r free ≡ true
         = and_from (may_migrate c r && not (is_cloned c r) && not (is_promotable c r)) free
         (and_from (may_migrate c r && not (is_cloned c r)) _
-        (and_from (may_migrate c r) _ l.allowed (not_from_false (is_cloned c r) l.uncloned)) (not_from_false (is_promotable c r) l.plain)) l.is_free in
+        (and_from (may_migrate c r) _ l.allowed (not_from_false (is_cloned c r) l.uncloned)) (not_from_false (is_promotable c r) l.not_promotable)) l.is_free in
         let node : first_node c need r ≡ Some n
         = only_found (λ n. (need r n).may) (range_with_len 0 (length c.nodes)) n (in_range 0 (length c.nodes) n (omega arith) (omega arith))
         (may_known n ln ∙ runs_may r n l.running) (λ k h d.

@@ -10,7 +10,7 @@ use Rattle.edges.specs.declared.edge.Edge.{Edge}
 use Rattle.cluster_types.specs.declared.journal.Action.{Action}
 use Rattle.cluster_types.specs.declared.rules.Order.{Order}
 use Rattle.cluster_types.specs.Numbers.{is_earlier}
-use Rattle.planner.specs.Chains.{serialized_at}
+use Rattle.planner.specs.Inner.Chains.{serialized_at}
 use Rattle.planner.specs.Inner.Groups.{AddsGroup}
 use Rattle.planner.specs.Inner.Serials.{most_serial, serial_room}
 use Rattle.planner.proofs.Adding.{adds_after, adds_none, adds_says}

@@ -11,7 +11,8 @@ use Rattle.cluster_types.specs.Numbers.{is_earlier, action_place}
 use Rattle.cluster_types.proofs.NumberLaws.{not_both}
 use Rattle.cluster_types.specs.Precedence.{is_across, is_serialize, is_serialized}
 use Rattle.cluster_types.specs.Plans.{is_of_either}
-use Rattle.planner.specs.Chains.{IsChainedSomewhere, earlier_of, is_earlier_at, serialized_at, serialized_of}
+use Rattle.planner.specs.Chains.{earlier_of, is_earlier_at}
+use Rattle.planner.specs.Inner.Chains.{IsChainedSomewhere, serialized_at, serialized_of}
 use Rattle.planner.specs.Inner.Groups.{AddsGroup}
 use Rattle.planner.specs.Inner.Serials.{AreSerials, most_serial}
 use Rattle.planner.proofs.Adding.{adds_none, adds_says}

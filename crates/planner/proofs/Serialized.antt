@@ -7,8 +7,7 @@ use Rattle.lemmas.proofs.Booleans.{number_itself}
 use Rattle.cluster_types.specs.declared.journal.Action.{Action}
 use Rattle.cluster_types.specs.declared.rules.Order.{Order}
 use Rattle.cluster_types.specs.Precedence.{CellOf, both, cell_of, change_cell, is_across, is_one_cell, is_serialize, is_serialized}
-use Rattle.planner.specs.Chains.{ArePlacesInOrder, IsChained, changes_at, earlier_of, is_earlier_at, is_cell_on}
-use Rattle.planner.specs.Gates.{InChain}
+use Rattle.planner.specs.Chains.{ArePlacesInOrder, IsChained, changes_at, earlier_of, is_earlier_at, is_cell_on, InChain}
 use Rattle.planner.specs.Joins.{in_leaf}
 use Rattle.planner.proofs.RuleJoins.{ordered_joined}
 use Rattle.planner.proofs.ChainOrder.{comes_stands, stands_comes}

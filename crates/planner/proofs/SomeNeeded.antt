@@ -9,16 +9,16 @@ use Rattle.cluster_types.specs.declared.journal.Event.{Event}
 use Rattle.cluster_types.specs.declared.journal.Promotion.{Promotion}
 use Rattle.cluster_types.specs.declared.leaf.Op.TheVariants.{Stop}
 use Rattle.cluster_types.specs.declared.rules.Order.{Order}
-use Rattle.cluster_types.specs.Needed.{Needed}
+use Rattle.cluster_types.specs.NeededActions.{Needed}
 use Rattle.cluster_types.specs.Numbers.{AreNeeded, rank, step_of}
 use Rattle.cluster_types.specs.Rights.{may_fence}
 use Rattle.cluster_types.specs.Tables.{Targets}
-use Rattle.cluster_types.specs.Unpacked.{states_of}
+use Rattle.cluster_types.specs.UnpackedStates.{states_of}
 use Rattle.cluster_types.specs.Valid.{IsValid}
 use Rattle.loops.proofs.FromValid.{valid_order}
 use Rattle.loops.proofs.OneRanking.{rank_bounded}
 use Rattle.planner.specs.Inner.Actions.{all_fences, is_undisturbed, is_touched, leaves_actions}
-use Rattle.planner.specs.Cycling.{MarkedCells, first_marks, with_orders}
+use Rattle.planner.specs.CycledCells.{MarkedCells, first_marks, with_orders}
 use Rattle.planner.specs.Inner.Levels.{below_level, need_at}
 use Rattle.planner.proofs.Found.{found}
 use Rattle.planner.proofs.StepsGot.{Tells}

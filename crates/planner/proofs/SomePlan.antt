@@ -6,7 +6,7 @@ use Rattle.cluster_types.specs.declared.journal.Action.{Action}
 use Rattle.cluster_types.specs.declared.journal.Event.{Event}
 use Rattle.cluster_types.specs.declared.journal.Promotion.{Promotion}
 use Rattle.cluster_types.specs.declared.placement.Placed.{Placed}
-use Rattle.cluster_types.specs.Needed.{Needed}
+use Rattle.cluster_types.specs.NeededActions.{Needed}
 use Rattle.cluster_types.specs.Numbers.{AreNeeded, Place, is_place_before, is_earlier, action_place}
 use Rattle.cluster_types.specs.Plans.{IsPlan}
 use Rattle.cluster_types.specs.Tables.{Targets, targets_of}

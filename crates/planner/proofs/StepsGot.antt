@@ -7,12 +7,12 @@ use Rattle.lemmas.proofs.Searches.{passes_by}
 use Rattle.cluster_types.specs.declared.cluster.Cluster.{Cluster}
 use Rattle.cluster_types.specs.declared.journal.Event.{Event}
 use Rattle.cluster_types.specs.declared.leaf.Op.{Op}
-use Rattle.cluster_types.specs.Needed.{Cycled, GetsAny, GetsStep, GetsStepAnywhere, steps_at}
+use Rattle.cluster_types.specs.NeededActions.{Cycled, GetsAny, GetsStep, GetsStepAnywhere, steps_at}
 use Rattle.cluster_types.specs.Tables.{Targets}
 use Rattle.planner.specs.Inner.Actions.{is_filled, is_touched, steps_in}
-use Rattle.planner.specs.Cycling.{MarkedCells}
+use Rattle.planner.specs.CycledCells.{MarkedCells}
 use Rattle.planner.specs.Inner.Levels.{need_at, steps_by}
-use Rattle.planner.specs.declared.needed.steps.CellNeed.{CellNeed}
+use Rattle.planner.specs.declared.needed_actions.steps.CellNeed.{CellNeed}
 use Rattle.planner.proofs.StepTests.{filled, first_step, some_of}
 
 -- what cells need is told, and which of them are cycled

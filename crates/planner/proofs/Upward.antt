@@ -11,13 +11,13 @@ use Rattle.cluster_types.specs.declared.journal.Event.{Event}
 use Rattle.cluster_types.specs.declared.leaf.Role.TheVariants as role
 use Rattle.cluster_types.specs.Fields.{is_promotable}
 use Rattle.cluster_types.specs.Graphs.{IsGraph, LeadsByGates}
-use Rattle.cluster_types.specs.Needed.{Needed}
+use Rattle.cluster_types.specs.NeededActions.{Needed}
 use Rattle.cluster_types.specs.Numbers.{AreNumbered, is_earlier, action_place}
 use Rattle.cluster_types.specs.Tables.{Targets, holds_role}
 use Rattle.cluster_types.specs.Valid.{IsValid}
 use Rattle.cluster_types.proofs.NumberLaws.{not_both}
 use Rattle.plan_laws.proofs.Upward.{pairs_upward}
-use Rattle.planner.specs.Precede.{AreEdges, graph_by}
+use Rattle.planner.specs.PrecedenceEdges.{AreEdges, graph_by}
 
 module _ (c : Cluster) (es : List Event) (targets : Targets) (actions : List Action) (edges : Edges) (valid : IsValid c)
     (roles : (r n : ℕ) → r < length c.leaves → n < length c.nodes → holds_role targets r role.Promoted n ≡ true → is_promotable c r ≡ true) where

@@ -10,7 +10,7 @@ use Rattle.cluster_types.specs.Valid.{IsValid}
 use Rattle.cluster_types.proofs.RuleLeaves.{role_leaf, word_leaf}
 use Rattle.planner.specs.Inner.Flags.{send_if}
 use Rattle.planner.specs.Inner.Index.{leaf_if}
-use Rattle.planner.specs.Rooms.{IsActionWithin}
+use Rattle.planner.specs.ActionNames.{IsActionWithin}
 
 pub dependents : (c : Cluster) → IsValid c → All (λ (col : Colocation). col.dependent < length c.leaves) c.colocations
 dependents c v = all_where _ c.colocations (λ col h. role_leaf c col.dependent col.dependent_role (v.colocations col h).dependent)

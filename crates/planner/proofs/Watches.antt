@@ -9,8 +9,8 @@ use Rattle.cluster_types.specs.declared.leaf.Monitor.{Monitor as MonitorOf}
 use Rattle.cluster_types.specs.declared.placement.Target.{Target}
 use Rattle.cluster_types.specs.CellStates.{is_monitor_running}
 use Rattle.cluster_types.specs.Fields.{monitors}
-use Rattle.cluster_types.specs.Needed.{is_monitor_for}
-use Rattle.cluster_types.specs.Unpacked.{running_bit, running_bits}
+use Rattle.cluster_types.specs.NeededActions.{is_monitor_for}
+use Rattle.cluster_types.specs.UnpackedStates.{running_bit, running_bits}
 use Rattle.planner.specs.Inner.Actions.{is_wanted, wanted}
 
 -- the bits of a list of monitors, by which of them are running

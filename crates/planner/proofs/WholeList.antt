@@ -16,18 +16,18 @@ use Rattle.cluster_types.specs.declared.leaf.Leaf.{Leaf}
 use Rattle.cluster_types.specs.declared.leaf.Monitor.{Monitor as MonitorOf}
 use Rattle.cluster_types.specs.declared.states.NodeState.{NodeState}
 use Rattle.cluster_types.specs.Fields.{monitors}
-use Rattle.cluster_types.specs.Needed.{GetsStepAnywhere, Needed, fence, kept}
+use Rattle.cluster_types.specs.NeededActions.{GetsStepAnywhere, Needed, fence, kept}
 use Rattle.cluster_types.specs.NodeStates.{is_unclean_state}
 use Rattle.cluster_types.specs.Numbers.{AreNeeded}
 use Rattle.cluster_types.specs.Rights.{is_to_be_fenced, may_fence}
 use Rattle.cluster_types.specs.Tables.{Targets}
-use Rattle.cluster_types.specs.Unpacked.{states_of}
+use Rattle.cluster_types.specs.UnpackedStates.{states_of}
 use Rattle.cluster_types.specs.Valid.{IsValid}
 use Rattle.cluster_types.proofs.StatesKept.{node_kept}
 use Rattle.loops.proofs.FromValid.{valid_join, valid_order}
 use Rattle.planner.specs.Inner.Actions.{all_fences, fences_in, is_undisturbed, is_touched, is_unclean_in, leaves_actions}
-use Rattle.planner.specs.Cycling.{MarkedCells}
-use Rattle.planner.specs.declared.needed.steps.CellNeed.{CellNeed}
+use Rattle.planner.specs.CycledCells.{MarkedCells}
+use Rattle.planner.specs.declared.needed_actions.steps.CellNeed.{CellNeed}
 use Rattle.planner.proofs.AllNeeded.{all_needed, there}
 use Rattle.planner.proofs.Conditions.{of_if, of_one}
 use Rattle.planner.proofs.OnceEach.{all_once}

@@ -5,13 +5,13 @@ use Rattle.cluster_types.specs.declared.cluster.Cluster.{Cluster}
 use Rattle.cluster_types.specs.declared.graph_edges.Edges.{Edges}
 use Rattle.cluster_types.specs.declared.journal.Action.{Action}
 use Rattle.cluster_types.specs.Graphs.{IsGraph}
-use Rattle.cluster_types.specs.Needed.{Needed}
+use Rattle.cluster_types.specs.NeededActions.{Needed}
 use Rattle.cluster_types.specs.Numbers.{is_earlier}
 use Rattle.cluster_types.specs.Plans.{most_edges}
 use Rattle.cluster_types.specs.Tables.{targets_of}
 use Rattle.cluster_types.specs.Valid.{IsValid}
-use Rattle.planner.specs.Precede.{AreEdges, graph_by}
-use Rattle.planner.specs.Rooms.{IsActionWithin}
+use Rattle.planner.specs.PrecedenceEdges.{AreEdges, graph_by}
+use Rattle.planner.specs.ActionNames.{IsActionWithin}
 use Rattle.planner.proofs.NeededWithin.{needed_within}
 use Rattle.planner.proofs.Upward.{is_graph}
 use Rattle.plan_laws.proofs.LowerNumbers.{promotable_target}

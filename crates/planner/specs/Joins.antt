@@ -1,5 +1,5 @@
 -- What must precede, as joins: each action of the one side comes before each of the other that has its cell. So each cell of a join can have a gate.
-use Rattle.std.specs.Prelude.{ℕ, ◌+◌, nat_lt, ◌==◌, ◌&&◌, Bool, true, if◌then◌else◌, Option, Some, None, List, [], ◌∷◌, ◌++◌, length, sum_by}
+use Rattle.std.specs.Prelude.{ℕ, ◌+◌, nat_lt, ◌==◌, ◌&&◌, Bool, true, if◌then◌else◌, Option, Some, None, List, ◌∷◌, ◌++◌, length, []}
 use Rattle.std.specs.List.{flat_map}
 use Rattle.cluster_types.specs.declared.cluster.Cluster.{Cluster}
 use Rattle.cluster_types.specs.declared.journal.Action.{Action}
@@ -148,11 +148,3 @@ module _ (c : Cluster) (actions : List Action) where
   -- the join has x before y
   abbrev pub is_joined : Action → Action → Join → Bool
   is_joined x y j = both is_one_cell (side_key_of c actions j.from x) (side_key_of c actions j.to y)
-
-  -- on how many sides an action stands: it has as many edges
-  abbrev pub one_if : Option CellOf → ℕ
-  one_if (Some a) = 1
-  one_if None = 0
-
-  abbrev pub stands : List Join → Action → ℕ
-  stands joins x = sum_by (λ (j : Join). one_if (side_key_of c actions j.from x) + one_if (side_key_of c actions j.to x)) joins

@@ -1,10 +1,9 @@
 pub mod Inner
-pub mod Planned
+pub mod PlanForJournal
 pub mod Losses
-pub mod Cycling
+pub mod CycledCells
 pub mod Joins
-pub mod Gates
-pub mod Rooms
 pub mod Chains
-pub mod Precede
+pub mod PrecedenceEdges
 pub mod PlannedActions
+pub mod ActionNames

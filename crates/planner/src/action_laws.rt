@@ -4,11 +4,11 @@ ghost use Rattle.std.specs.Prelude.{◌≡◌, ◌↔◌, ℕ, List, true};
 ghost use Rattle.cluster_types.specs.declared.cluster.Cluster.{Cluster};
 ghost use Rattle.cluster_types.specs.declared.journal.Event.{Event};
 ghost use Rattle.cluster_types.specs.declared.rules.Order.{Order};
-ghost use Rattle.cluster_types.specs.Needed.{Cycled};
+ghost use Rattle.cluster_types.specs.NeededActions.{Cycled};
 ghost use Rattle.cluster_types.specs.Numbers.{StepsHaveNoLoop};
 ghost use Rattle.cluster_types.specs.Tables.{Targets};
 ghost use Rattle.loops.specs.FirstLoops.{AllOrder};
-ghost use Rattle.planner.specs.Cycling.{AreCycling, FallByRank, NoneComesBack, first_marks, with_orders};
+ghost use Rattle.planner.specs.CycledCells.{AreCycling, FallByRank, NoneComesBack, first_marks, with_orders};
 
 /// One pass over the orders that may have cells cycled marks just the cells that are stopped and started again, where none of them has as
 /// its then the first of one that came before it.

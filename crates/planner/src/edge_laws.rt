@@ -10,15 +10,15 @@ ghost use Rattle.cluster_types.specs.declared.leaf.Role.TheVariants as role;
 ghost use Rattle.cluster_types.specs.declared.rules.Order.{Order as OrderOf};
 ghost use Rattle.cluster_types.specs.Fields.{is_promotable};
 ghost use Rattle.cluster_types.specs.Graphs.{IsGraph, LeadsByGates};
-ghost use Rattle.cluster_types.specs.Needed.{Needed};
+ghost use Rattle.cluster_types.specs.NeededActions.{Needed};
 ghost use Rattle.cluster_types.specs.Numbers.{AreNumbered, is_earlier};
 ghost use Rattle.cluster_types.specs.Precedence.{is_serialize, is_serialized, must_precede};
 ghost use Rattle.cluster_types.specs.Tables.{Targets, holds_role};
 ghost use Rattle.cluster_types.specs.Valid.{IsValid};
 ghost use Rattle.planner.specs.Chains.{ArePlacesInOrder, IsChained, is_earlier_at};
 ghost use Rattle.planner.specs.Joins.{is_joined, joins_of};
-ghost use Rattle.planner.specs.Precede.{AreEdges, graph_by};
-ghost use Rattle.planner.specs.Rooms.{IsActionWithin};
+ghost use Rattle.planner.specs.PrecedenceEdges.{AreEdges, graph_by};
+ghost use Rattle.planner.specs.ActionNames.{IsActionWithin};
 
 /// What must precede is what some join says, and what orders of the kind Serialize say in the order of numbers.
 pub fn joins_say_what_must_precede()

@@ -8,7 +8,7 @@ ghost use Rattle.cluster_types.specs.declared.journal.Promotion.{Promotion as Pr
 ghost use Rattle.cluster_types.specs.declared.placement.Placed.{Placed as PlacedOf};
 ghost use Rattle.cluster_types.specs.Plans.{IsPlan};
 ghost use Rattle.cluster_types.specs.Valid.{IsValid};
-ghost use Rattle.planner.specs.Planned.{HasPlan};
+ghost use Rattle.planner.specs.PlanForJournal.{HasPlan};
 
 /// Of a valid cluster, a journal and a list of promotion scores there is one plan: some, and no more.
 pub fn there_is_one_plan()

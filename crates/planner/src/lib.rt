@@ -6,7 +6,7 @@
 #![tactic(auto)]
 
 // Which actions are needed.
-mod needed;
+mod needed_actions;
 
 // Which of the actions must precede which, as edges between positions.
 mod precedence;
@@ -34,7 +34,7 @@ pub use edge_laws::{
 };
 pub use laws::there_is_one_plan;
 pub use losing::survive;
-pub use needed::building::actions;
+pub use needed_actions::building::actions;
 pub use number_laws::{needed_actions_have_places_of_their_own, plans_have_few_edges};
 pub use numbering::number;
 pub use planning::{plan, plan_of};

@@ -2,7 +2,7 @@ ghost use Rattle.std.specs.Prelude.{◌≡◌, ◌<◌, ◌^◌, ◌++◌, ◌�
 ghost use Rattle.cluster_types.specs.Journals as journals;
 ghost use Rattle.cluster_types.specs.NodeStates.{is_online_state};
 ghost use Rattle.cluster_types.specs.declared.journal.Event.TheVariants.{Lost};
-ghost use Rattle.cluster_types.specs.Unpacked.{states_of};
+ghost use Rattle.cluster_types.specs.UnpackedStates.{states_of};
 ghost use Rattle.cluster_types.specs.Valid.{IsValid};
 ghost use Rattle.state_unpack.specs.Known.{Knows};
 ghost use Rattle.planner.specs.Losses.{IsLoss, AreAllLosses};

@@ -6,7 +6,7 @@ ghost use Rattle.cluster_types.specs.declared.journal.Action.{Action as ActionOf
 ghost use Rattle.cluster_types.specs.declared.journal.Event.{Event as EventOf};
 ghost use Rattle.cluster_types.specs.declared.journal.Promotion.{Promotion as PromotionOf};
 ghost use Rattle.cluster_types.specs.declared.placement.Placed.{Placed as PlacedOf};
-ghost use Rattle.cluster_types.specs.Needed.{Needed};
+ghost use Rattle.cluster_types.specs.NeededActions.{Needed};
 ghost use Rattle.cluster_types.specs.Numbers.{action_place};
 ghost use Rattle.cluster_types.specs.Plans.{IsPlaced, most_edges};
 ghost use Rattle.cluster_types.specs.Tables.{targets_of};

@@ -2,9 +2,9 @@ ghost use Rattle.std.specs.Prelude.{◌≡◌, ◌<◌, ◌^◌, List, IfOk};
 ghost use Rattle.cluster_types.specs.declared.journal.Event.{Event as EventOf};
 ghost use Rattle.cluster_types.specs.declared.journal.Promotion.{Promotion as PromotionOf};
 ghost use Rattle.cluster_types.specs.Journals as journals;
-ghost use Rattle.cluster_types.specs.Unpacked.{states_of};
+ghost use Rattle.cluster_types.specs.UnpackedStates.{states_of};
 ghost use Rattle.cluster_types.specs.Valid.{IsValid};
-ghost use Rattle.planner.specs.Planned.{AreTold, IsPlanned};
+ghost use Rattle.planner.specs.PlanForJournal.{AreTold, IsPlanned};
 
 use crate::{actions, number};
 use cluster_types::{Cluster, Journal, NoMemory, Plan, States};

@@ -8,7 +8,7 @@ use Rattle.edges.specs.declared.edge.Edge.{Edge}
 use Rattle.cluster_types.specs.declared.journal.Action.{Action}
 use Rattle.cluster_types.specs.Graphs.{IsGraph}
 use Rattle.cluster_types.proofs.RisingEdges.{graph-rising}
-use Rattle.run_cases.specs.Rising.{rises}
+use Rattle.run_cases.specs.RisingEdges.{rises}
 
 module _ (actions : List Action) (count : ℕ) (edges : List Edge) (counted : count ≡ length actions) (all : list_all (rises count) edges ≡ true) where
   rise : (e : Edge) → Contains edges e → e.before < e.after

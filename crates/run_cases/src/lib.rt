@@ -5,7 +5,7 @@
 
 // Small graphs, what happens, in short, and a watcher that is told.
 #[cfg(test)]
-mod shown;
+mod shown_events;
 #[cfg(test)]
 mod small_graphs;
 #[cfg(test)]
@@ -21,7 +21,9 @@ mod waiting_orders;
 
 // Transitions and runs.
 #[cfg(test)]
-mod handed_back;
+mod begins;
+#[cfg(test)]
+mod out_of_memory;
 #[cfg(test)]
 mod runs;
 #[cfg(test)]

@@ -2,7 +2,7 @@
 
 ghost use Rattle.std.specs.Prelude.{◌≡◌, []};
 ghost use Rattle.cluster_types.specs.Valid.{IsValid};
-ghost use Rattle.graph_exec.specs.Telling.{ReasonsHaveNames};
+ghost use Rattle.graph_exec.specs.WatcherLines.{ReasonsHaveNames};
 
 use crate::starts::{TWO, cluster_of};
 use cluster_io::MemorySink;

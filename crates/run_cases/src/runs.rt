@@ -89,6 +89,32 @@ const ROWS: &[(&[Answer], Run)] = &[
             Ending::Most,
         ),
     ),
+    // The node comes up again then, and two transitions are allowed: no third one is made.
+    (
+        &[
+            Answer::Lost { node: 1 },
+            Answer::End { number: 1, code: 0 },
+            Answer::End { number: 2, code: 0 },
+            Answer::Up { node: 1 },
+        ],
+        (
+            RUNNING,
+            2,
+            &[
+                Line::Transition(1, Some(1)),
+                Line::Complete(1),
+                Line::Taken(Answer::Lost { node: 1 }),
+                Line::Transition(2, Some(0)),
+                Line::Begin(1),
+                Line::Taken(Answer::End { number: 1, code: 0 }),
+                Line::Begin(2),
+                Line::Taken(Answer::End { number: 2, code: 0 }),
+                Line::Complete(2),
+                Line::Taken(Answer::Up { node: 1 }),
+            ],
+            Ending::Most,
+        ),
+    ),
     // No action has this number.
     (
         &[Answer::End { number: 9, code: 0 }],

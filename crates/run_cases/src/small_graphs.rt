@@ -3,8 +3,8 @@
 ghost use Rattle.std.specs.Prelude.{◌≡◌, ◌<◌, ◌^◌, true};
 ghost use Rattle.std.specs.List.{list_all};
 ghost use Rattle.cluster_types.specs.Valid.{KeepsLimits};
-ghost use Rattle.run_cases.specs.Rising.{rises};
-ghost use Rattle.state_unpack.specs.CellsKept.{has_few_monitors};
+ghost use Rattle.run_cases.specs.RisingEdges.{rises};
+ghost use Rattle.state_unpack.specs.Knowledge.{has_few_monitors};
 
 use cluster_types::{Action, Cluster, Edge, Edges, Graph, Journal, Op, Role, moment_of};
 use graph_exec::Executor;

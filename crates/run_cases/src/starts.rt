@@ -4,10 +4,10 @@ ghost use Rattle.std.specs.Prelude.{◌≡◌, ◌<◌, ◌^◌, true};
 ghost use Rattle.cluster_types.specs.Journals.{moment_of};
 ghost use Rattle.cluster_types.specs.Safety.{IsAtRest};
 ghost use Rattle.cluster_types.specs.Valid.{IsValid, KeepsLimits};
-ghost use Rattle.state_unpack.specs.CellsKept.{has_few_monitors};
+ghost use Rattle.state_unpack.specs.Knowledge.{has_few_monitors};
 
 use cluster_types::{Cluster, Journal};
-use input_reading::read_start;
+use input_reading::read_lone_head;
 use state_unpack::valid_clusters_have_few_monitors;
 use std::alloc::Global;
 use std::process::Abort;
@@ -34,7 +34,7 @@ pub(crate) fn start_of(rt: &impl Abort, alloc: Global, text: &str) -> (Cluster, 
     valid_clusters_have_few_monitors();
     assert!(rt; text.len() <= 16_777_216);
     let text = text.as_bytes().to_vec(alloc).expect(rt, "memory");
-    let head = read_start(alloc, text).expect(rt, "the text is read");
+    let head = read_lone_head(alloc, text).expect(rt, "the text is read");
     (head.cluster, head.journal)
 }
 

@@ -2,9 +2,9 @@
 
 ghost use Rattle.std.specs.Prelude.{◌≡◌, true};
 ghost use Rattle.cluster_types.specs.Valid.{KeepsLimits};
-ghost use Rattle.state_unpack.specs.CellsKept.{has_few_monitors};
+ghost use Rattle.state_unpack.specs.Knowledge.{has_few_monitors};
 
-use crate::shown::{NOT_RUNNING, Shown, are_shown};
+use crate::shown_events::{NOT_RUNNING, Shown, are_shown};
 use crate::small_graphs::{PROBE_1, PROBE_2, Plan, executor_of};
 use crate::starts::start_of;
 use crate::watching::{Follower, Line};

@@ -2,9 +2,9 @@
 
 ghost use Rattle.std.specs.Prelude.{◌≡◌, true};
 ghost use Rattle.cluster_types.specs.Valid.{KeepsLimits};
-ghost use Rattle.state_unpack.specs.CellsKept.{has_few_monitors};
+ghost use Rattle.state_unpack.specs.Knowledge.{has_few_monitors};
 
-use crate::shown::{DONE, FAILED, NOT_RUNNING, Shown, are_shown};
+use crate::shown_events::{DONE, FAILED, NOT_RUNNING, Shown, are_shown};
 use crate::small_graphs::{PROBE_1, PROBE_2, Plan, START_1, executor_of};
 use crate::starts::{TWO, start_of};
 use cluster_types::{Action, Answer, Cluster, Edge, Event, Journal, Op, Outcome, Role};
@@ -41,7 +41,7 @@ const FIRST_TO_SECOND: Edge = Edge {
 };
 
 /// The plan where nothing is known: both probes, and then the start on the first node.
-const PROBED: Plan = (
+pub(crate) const PROBED: Plan = (
     &[PROBE_1, PROBE_2, START_1],
     &[
         Edge {

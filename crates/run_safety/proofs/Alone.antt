@@ -7,7 +7,7 @@ use Rattle.cluster_types.specs.declared.journal.Action.TheVariants.{Fence, Probe
 use Rattle.cluster_types.specs.declared.journal.Answer.{Answer}
 use Rattle.cluster_types.specs.declared.journal.Event.{Event}
 use Rattle.cluster_types.specs.May.{may_be_running}
-use Rattle.cluster_types.specs.Needed.{Migrates}
+use Rattle.cluster_types.specs.NeededActions.{Migrates}
 use Rattle.cluster_types.specs.Safety.{MigratesAlone, MigrationsAlone}
 use Rattle.cluster_types.specs.Steps.{Transition, Begins, Goes, journal}
 use Rattle.cluster_types.specs.Tables.{Targets}

@@ -6,8 +6,8 @@ use Rattle.cluster_types.specs.declared.journal.Answer.{Answer}
 use Rattle.cluster_types.specs.declared.journal.Promotion.{Promotion}
 use Rattle.cluster_types.specs.declared.run.RunLine.{RunLine}
 use Rattle.cluster_types.specs.Runs.{RunStanding, RunsOn, plans, goes, completes, aborts, answers, Runs, here, one_more, journal_at}
-use Rattle.cluster_types.specs.Steps.{answer_events, resting}
-use Rattle.run_safety.specs.Followed.{IsFront}
+use Rattle.cluster_types.specs.Steps.{answer_events, idling}
+use Rattle.run_safety.specs.TwoRuns.{IsFront}
 
 pub front_then : {X : Type 0} (xs ys zs : List X) → IsFront xs ys → IsFront ys zs → IsFront xs zs
 front_then xs ys zs f g = record { more = f.more ++ g.more; joined = g.joined ∙ ap (λ l. l ++ g.more) f.joined ∙ append_assoc xs f.more g.more }
@@ -26,7 +26,7 @@ module _ (c : Cluster) (promotions : List Promotion) (whole : Bool) where
   journal_grows _ _ rest left _ (goes k t since events _ _ step) = record { more = events; joined = sym (append_assoc t.planned_at since events) }
   journal_grows _ _ rest _ _ (completes k t since _ ended unaborted) = record { more = []; joined = sym (append-nil _) }
   journal_grows _ _ rest _ _ (aborts k t since _ ended aborted) = record { more = []; joined = sym (append-nil _) }
-  journal_grows _ _ rest left _ (answers k es _ _ given said applies) = record { more = answer_events (resting c es) [] given; joined = refl }
+  journal_grows _ _ rest left _ (answers k es _ _ given said applies) = record { more = answer_events (idling c es) [] given; joined = refl }
 
   pub journals_grow : (at later : RunStanding) (rest left : Option (List Answer)) (lines : List RunLine) → Runs c promotions whole at rest lines later left → IsFront (journal_at at) (journal_at later)
   journals_grow at later rest left lines runs =

@@ -15,8 +15,8 @@ use Rattle.cluster_types.specs.declared.rules.Colocation.{Colocation}
 use Rattle.cluster_types.specs.CellStates.{cell_state}
 use Rattle.cluster_types.specs.Choice.{is_separation}
 use Rattle.cluster_types.specs.Journals.{Orderly}
-use Rattle.cluster_types.specs.Lawful.{IsLawfulCell}
-use Rattle.cluster_types.specs.Needed.{Needed}
+use Rattle.cluster_types.specs.LawfulTables.{IsLawfulCell}
+use Rattle.cluster_types.specs.NeededActions.{Needed}
 use Rattle.cluster_types.specs.NodeStates.{is_online}
 use Rattle.cluster_types.specs.Precedence.{CellOf, cell_of, gives_any, gives_role, is_parted, parts_first, takes_or_probes}
 use Rattle.cluster_types.specs.Safety.{MeetsNot, NoForbiddenNeighbour, may_have_role}

@@ -10,7 +10,7 @@ use Rattle.cluster_types.specs.declared.journal.Answer.{Answer}
 use Rattle.cluster_types.specs.declared.journal.Event.{Event}
 use Rattle.cluster_types.specs.declared.journal.Event.TheVariants.{Lost}
 use Rattle.cluster_types.specs.declared.journal.Outcome.TheVariants.{Gone}
-use Rattle.cluster_types.specs.Answering.{end_event}
+use Rattle.cluster_types.specs.AnswersThatApply.{end_event}
 use Rattle.cluster_types.specs.Journals.{ends_number, in_flight_by_begin, is_on}
 use Rattle.cluster_types.specs.Steps.{Transition, Goes, here, one_more, numbers_in_flight, in_flight_by_number, has_begun, is_number_in_flight, journal, numbers}
 use Rattle.cluster_types.proofs.SourceLaws.{none-in_flight}

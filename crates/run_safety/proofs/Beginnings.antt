@@ -7,7 +7,7 @@ use Rattle.cluster_types.specs.declared.journal.Event.{Event}
 use Rattle.cluster_types.specs.declared.journal.Promotion.{Promotion}
 use Rattle.cluster_types.specs.declared.run.RunLine.{RunLine}
 use Rattle.cluster_types.specs.Runs.{RunStanding, due, Runs, IsCutRun, IsWholeRun, journal_at}
-use Rattle.run_safety.specs.Followed.{AreAnswersTold, IsFront}
+use Rattle.run_safety.specs.TwoRuns.{AreAnswersTold, IsFront}
 use Rattle.run_safety.specs.OnePlan.{PlansAreOne}
 use Rattle.run_safety.proofs.Along.{journals_grow}
 use Rattle.run_safety.proofs.OneEnd.{before_stuck, cut_run_stuck, whole_stuck}

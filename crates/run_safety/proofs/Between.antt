@@ -8,8 +8,8 @@ use Rattle.cluster_types.specs.declared.journal.Promotion.{Promotion}
 use Rattle.cluster_types.specs.declared.run.RunLine.{RunLine}
 use Rattle.cluster_types.specs.declared.run.RunLine.TheVariants as line
 use Rattle.cluster_types.specs.Runs.{RunStanding, due, amid, idle, RunsOn, plans, goes, completes, aborts, answers, Runs, IsBetween}
-use Rattle.cluster_types.specs.Steps.{answer_events, journal, resting}
-use Rattle.run_safety.specs.Followed.{EndsBetween, at_first, after_aborted, after_answer, at_complete}
+use Rattle.cluster_types.specs.Steps.{answer_events, journal, idling}
+use Rattle.run_safety.specs.TwoRuns.{EndsBetween, at_first, after_aborted, after_answer, at_complete}
 use Rattle.run_safety.proofs.Along.{along}
 
 module _ (c : Cluster) (promotions : List Promotion) (whole : Bool) (first : List Event) where
@@ -29,7 +29,7 @@ module _ (c : Cluster) (promotions : List Promotion) (whole : Bool) (first : Lis
   one_end _ _ rest left before _ (goes k t since events _ _ step) ends = tt
   one_end _ _ rest _ before _ (completes k t since _ ended unaborted) ends = at_complete k (journal t since) (before ++ line.Complete k ∷ []) (record { front = before; joined = refl })
   one_end _ _ rest _ before _ (aborts k t since _ ended aborted) ends = after_aborted k (journal t since) (before ++ line.Aborted k ∷ []) (record { front = before; joined = refl })
-  one_end _ _ rest left before _ (answers k es _ _ given said applies) ends = one_answer k es (es ++ answer_events (resting c es) [] given) given before ends
+  one_end _ _ rest left before _ (answers k es _ _ given said applies) ends = one_answer k es (es ++ answer_events (idling c es) [] given) given before ends
 
   pub ends_between : (at : RunStanding) (rest left : Option (List Answer)) (lines : List RunLine) → Runs c promotions whole (due 1 first) rest lines at left → IsBetween c promotions whole at → EndsBetween first at lines
   ends_between at rest left lines runs = by at (along c promotions whole (λ p _ before. Ends p before) (λ p q middle behind before more step ends. one_end p q middle behind before more step ends)

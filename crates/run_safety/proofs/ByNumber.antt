@@ -15,7 +15,7 @@ use Rattle.cluster_types.specs.declared.journal.Action.TheVariants.{Fence}
 use Rattle.cluster_types.specs.declared.journal.Answer.{Answer}
 use Rattle.cluster_types.specs.declared.journal.Event.{Event}
 use Rattle.cluster_types.specs.declared.journal.Event.TheVariants.{Up, Down, Lost, Quorum, Wait, Cleanup, Begin, Ended}
-use Rattle.cluster_types.specs.Answering.{is_number_of}
+use Rattle.cluster_types.specs.AnswersThatApply.{is_number_of}
 use Rattle.cluster_types.specs.Journals.{AreInFlightByNumber, ends_number, in_flight_by_begin}
 use Rattle.cluster_types.specs.Steps.{Goes, Transition, action_at, begins_number, has_begun, in_flight_by_number, is_number_in_flight, numbered, numbers, numbers_in_flight}
 use Rattle.cluster_types.proofs.SourceLaws.{none-in_flight}

@@ -14,7 +14,7 @@ use Rattle.cluster_types.specs.declared.journal.Outcome.{Outcome}
 use Rattle.cluster_types.specs.declared.journal.Outcome.TheVariants.{Code, TimedOut, Gone}
 use Rattle.cluster_types.specs.declared.leaf.Role.{Role}
 use Rattle.cluster_types.specs.declared.leaf.Role.TheVariants as role
-use Rattle.cluster_types.specs.Answering.{monitor_action, role_of_interval}
+use Rattle.cluster_types.specs.AnswersThatApply.{monitor_action, role_of_interval}
 use Rattle.cluster_types.specs.Fields.{monitors}
 use Rattle.cluster_types.specs.Outcomes.{is_bad, is_ignored}
 use Rattle.cluster_types.specs.Steps.{Transition, Begins, Goes, here, one_more, aborts, action_at, has_aborted, is_number_in_flight, is_success}

@@ -3,8 +3,8 @@ use Rattle.std.proofs.Common.{ℕ}
 use Rattle.std.specs.Prelude.{◌≡◌, ◌<◌, true, Some, length}
 use Rattle.cluster_types.specs.declared.journal.Action.{Action}
 use Rattle.cluster_types.specs.Fields.{is_promotable}
-use Rattle.cluster_types.specs.Lawful.{IsLawful}
-use Rattle.cluster_types.specs.Needed.{Needed}
+use Rattle.cluster_types.specs.LawfulTables.{IsLawful}
+use Rattle.cluster_types.specs.NeededActions.{Needed}
 use Rattle.cluster_types.specs.Numbers.{is_earlier}
 use Rattle.cluster_types.specs.Pins.{is_pinned, pinned_targets}
 use Rattle.cluster_types.specs.Precedence.{gives_any, is_some_cell, must_precede}

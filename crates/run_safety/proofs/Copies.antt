@@ -17,7 +17,7 @@ use Rattle.cluster_types.specs.Choice.{cap_of, is_stopped_role}
 use Rattle.cluster_types.specs.Failures.{is_fail_stopped}
 use Rattle.cluster_types.specs.Fields.{copies, target_role_of}
 use Rattle.cluster_types.specs.Journals.{Orderly}
-use Rattle.cluster_types.specs.Lawful.{role_count}
+use Rattle.cluster_types.specs.LawfulTables.{role_count}
 use Rattle.cluster_types.specs.May.{may_be_running}
 use Rattle.cluster_types.specs.Precedence.{CellOf, gives_any, op_cell}
 use Rattle.cluster_types.specs.Rights.{may_start}

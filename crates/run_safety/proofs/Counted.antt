@@ -12,7 +12,7 @@ use Rattle.cluster_types.specs.declared.run.RunLine.{RunLine}
 use Rattle.cluster_types.specs.Runs.{RunStanding, due, amid, idle, RunsOn, plans, goes, completes, aborts, answers, Runs, IsRunUpTo}
 use Rattle.cluster_types.specs.Sources.{Says, told as said_first, used_up, untold}
 use Rattle.cluster_types.specs.Steps.{Transition, StepsOn, begins, takes, is_silent, aborts as aborts_it, ended, has_aborted}
-use Rattle.run_safety.specs.Followed.{AreAnswersTold, count_told, transition_number_at}
+use Rattle.run_safety.specs.TwoRuns.{AreAnswersTold, count_told, transition_number_at}
 use Rattle.run_safety.proofs.Along.{along}
 use Rattle.run_safety.proofs.OneRun.{run_told}
 use Rattle.run_safety.proofs.Silent.{silent_aborts_nothing}

@@ -14,7 +14,7 @@ use Rattle.cluster_types.specs.declared.placement.Target.TheVariants as target
 use Rattle.cluster_types.specs.declared.states.CellState.{CellState}
 use Rattle.cluster_types.specs.declared.states.CellState.TheVariants as cell
 use Rattle.cluster_types.specs.Cells.{is_same_cell}
-use Rattle.cluster_types.specs.Needed.{Cycled, NeededBeforeMigration, fence, probe, step, monitor, Needed, kept, sent, taken_in, GetsStep, runs, steps_of}
+use Rattle.cluster_types.specs.NeededActions.{Cycled, NeededBeforeMigration, fence, probe, step, monitor, Needed, kept, sent, taken_in, GetsStep, runs, steps_of}
 use Rattle.cluster_types.specs.Pins.{is_pinned}
 use Rattle.cluster_types.specs.Steps.{Transition}
 use Rattle.cluster_types.specs.Tables.{Targets}

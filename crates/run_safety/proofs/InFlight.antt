@@ -11,7 +11,7 @@ use Rattle.lemmas.proofs.Booleans.{number_itself}
 use Rattle.cluster_types.specs.declared.journal.Action.{Action}
 use Rattle.cluster_types.specs.declared.journal.Event.{Event}
 use Rattle.cluster_types.specs.declared.journal.Outcome.TheVariants.{Gone}
-use Rattle.cluster_types.specs.Answering.{end_event}
+use Rattle.cluster_types.specs.AnswersThatApply.{end_event}
 use Rattle.cluster_types.specs.Journals.{is_on, ends_number}
 use Rattle.cluster_types.specs.Steps.{Transition, action_at, begins_number, in_flight_by_number, has_begun, has_number_ended, is_number_in_flight, journal, numbered, numbers}
 use Rattle.run_safety.proofs.Shapes.{gone_with}

@@ -11,8 +11,8 @@ use Rattle.cluster_types.specs.declared.journal.Event.{Event}
 use Rattle.cluster_types.specs.declared.journal.Event.TheVariants.{Up, Begin, Ended}
 use Rattle.cluster_types.specs.declared.journal.Outcome.{Outcome}
 use Rattle.cluster_types.specs.declared.journal.Outcome.TheVariants.{Gone}
-use Rattle.cluster_types.specs.Answering.{end_event}
-use Rattle.cluster_types.specs.Journals.{joined, Orderly, is_on, last_sign, sign_of, wants_node, was_fenced}
+use Rattle.cluster_types.specs.AnswersThatApply.{end_event}
+use Rattle.cluster_types.specs.Journals.{joined, Orderly, is_on, last_sign, sign_of, needs_node, was_fenced}
 use Rattle.cluster_types.specs.NodeStates.{is_online}
 use Rattle.cluster_types.specs.Steps.{Transition, aborts, action_at, begins_number, in_flight_by_number, has_aborted, is_number_in_flight, journal}
 use Rattle.cluster_types.proofs.StepLaws.{split}
@@ -25,7 +25,7 @@ use Rattle.run_safety.proofs.Standing.{KeepsToNodes, Stands}
 
 -- more events behind a journal in order, of which each finds its node there
 pub ordered : (es ys : List Event) → Orderly es
-    → ((front after : List Event) (e : Event) (n : ℕ) → ys ≡ front ++ e ∷ after → wants_node n e ≡ true → last_sign n (es ++ front) ≡ Some joined) → Orderly (es ++ ys)
+    → ((front after : List Event) (e : Event) (n : ℕ) → ys ≡ front ++ e ∷ after → needs_node n e ≡ true → last_sign n (es ++ front) ≡ Some joined) → Orderly (es ++ ys)
 ordered es ys h g before after e n q w =
     split (last_sign n before ≡ Some joined) es ys before after e q (λ rest p. h before rest e n p w)
     (λ front p r. ap (last_sign n) p ∙ g front after e n r w)
@@ -58,7 +58,7 @@ gone_shows_nothing k n m (MigrateTo r source to) = refl
 gone_shows_nothing k n m (MigrateFrom r source to) = refl
 
 -- an action of a cell that is in flight on a node wanted it as it began
-on_wants : (k n : ℕ) (a : Action) → is_on n a ≡ true → wants_node n (Begin k a) ≡ true
+on_wants : (k n : ℕ) (a : Action) → is_on n a ≡ true → needs_node n (Begin k a) ≡ true
 on_wants k n (Fence node) h = h
 on_wants k n (Probe r node) h = h
 on_wants k n (Operation op r node interval role) h = h
@@ -70,7 +70,7 @@ aborted_before t since ys h = or_parts (has_aborted t since) (list_any (aborts t
 
 module _ (t : Transition) (keeps : KeepsToNodes t) (since : List Event) (stands : Stands t since) where
   -- one event that finds its node there, and leaves all nodes there that are asked for
-  stands_one : (e : Event) → ((n : ℕ) → wants_node n e ≡ true → last_sign n (journal t since) ≡ Some joined)
+  stands_one : (e : Event) → ((n : ℕ) → needs_node n e ≡ true → last_sign n (journal t since) ≡ Some joined)
       → ((k n : ℕ) (a : Action) → action_at t k ≡ Some a → is_number_in_flight t (since ++ e ∷ []) k ≡ true → is_on n a ≡ true → last_sign n (journal t since) ≡ Some joined)
       → ((n : ℕ) → is_online t.cluster n t.planned_at ≡ true → is_kept n (sign_of n e) ≡ true)
       → Stands t (since ++ e ∷ [])
@@ -80,7 +80,7 @@ module _ (t : Transition) (keeps : KeepsToNodes t) (since : List Event) (stands 
         orderly = subst Orderly whole (ordered (journal t since) (e ∷ []) stands.orderly (λ front after d n q w.
             at_only (last_sign n (journal t since ++ front) ≡ Some joined) e d front after q (λ f same.
             subst (λ z. last_sign n (journal t since ++ z) ≡ Some joined) (sym f)
-            (subst (λ z. last_sign n z ≡ Some joined) (sym (append-nil (journal t since))) (wanted n (subst (λ z. wants_node n z ≡ true) (sym same) w))))));
+            (subst (λ z. last_sign n z ≡ Some joined) (sym (append-nil (journal t since))) (wanted n (subst (λ z. needs_node n z ≡ true) (sym same) w))))));
         there = λ k n a is flies on.
             ap (last_sign n) (sym whole) ∙ stays n (journal t since) e (kept n (keeps.online k n a is (on_wants k n a on))) (flown k n a is flies on);
         steady = λ unaborted n on.
@@ -88,7 +88,7 @@ module _ (t : Transition) (keeps : KeepsToNodes t) (since : List Event) (stands 
       }
 
   -- what begins nothing, and leaves nodes there
-  pub stands_still : (e : Event) → ((k : ℕ) → begins_number k e ≡ false) → ((n : ℕ) → wants_node n e ≡ true → last_sign n (journal t since) ≡ Some joined)
+  pub stands_still : (e : Event) → ((k : ℕ) → begins_number k e ≡ false) → ((n : ℕ) → needs_node n e ≡ true → last_sign n (journal t since) ≡ Some joined)
       → ((n : ℕ) → is_online t.cluster n t.planned_at ≡ true → is_kept n (sign_of n e) ≡ true) → Stands t (since ++ e ∷ [])
   stands_still e fresh wanted kept =
       stands_one e wanted (λ k n a is flies on. stands.there k n a is (was_in_flight t since (e ∷ []) k (rw (fresh k) refl) flies).0 on) kept
@@ -110,13 +110,13 @@ module _ (t : Transition) (keeps : KeepsToNodes t) (since : List Event) (stands 
 
   -- a loss: first ends what was in flight there, and then the node is gone
   pub gone_flies : (n : ℕ) (ps : List (ℕ × Action)) → Each (Flies t since) ps
-      → Each (λ e. ((m : ℕ) → sign_of m e ≡ None) × ((m : ℕ) → wants_node m e ≡ true → last_sign m (journal t since) ≡ Some joined)
+      → Each (λ e. ((m : ℕ) → sign_of m e ≡ None) × ((m : ℕ) → needs_node m e ≡ true → last_sign m (journal t since) ≡ Some joined)
       × ((k : ℕ) → begins_number k e ≡ false)) (map (end_event t.cluster (journal t since) (in_flight_by_number t since) Gone) (filter (λ (p : ℕ × Action). is_on n p.1) ps))
   gone_flies n _ none = none
   gone_flies n _ (more p ps f rest) = by (is_on n p.1) (gone_flies n ps rest)
     where
       Fits : Event → Type 0
-      Fits e = ((m : ℕ) → sign_of m e ≡ None) × ((m : ℕ) → wants_node m e ≡ true → last_sign m (journal t since) ≡ Some joined) × ((k : ℕ) → begins_number k e ≡ false)
+      Fits e = ((m : ℕ) → sign_of m e ≡ None) × ((m : ℕ) → needs_node m e ≡ true → last_sign m (journal t since) ≡ Some joined) × ((k : ℕ) → begins_number k e ≡ false)
 
       by : (b : Bool) → Each Fits (map (end_event t.cluster (journal t since) (in_flight_by_number t since) Gone) (filter (λ (p : ℕ × Action). is_on n p.1) ps))
           → Each Fits (map (end_event t.cluster (journal t since) (in_flight_by_number t since) Gone) (cond b (p ∷ filter (λ (p : ℕ × Action). is_on n p.1) ps) (filter (λ (p : ℕ × Action). is_on n p.1) ps)))

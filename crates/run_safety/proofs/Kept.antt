@@ -11,7 +11,7 @@ use Rattle.cluster_types.specs.declared.run.RunLine.{RunLine}
 use Rattle.cluster_types.specs.declared.run.RunLine.TheVariants as line
 use Rattle.cluster_types.specs.Tables.{targets_of}
 use Rattle.cluster_types.specs.Texts.{all_passed_lines, begin_of, between, end_lines, event_lines, passed_lines, target_lines}
-use Rattle.run_safety.specs.Kept.{AreWithin}
+use Rattle.run_safety.specs.KeptLines.{AreWithin}
 
 module _ (es ys : List Event) where
   -- events before the end of a journal stay where they are

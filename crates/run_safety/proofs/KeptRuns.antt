@@ -19,10 +19,10 @@ use Rattle.cluster_types.specs.declared.run.RunLine.TheVariants as line
 use Rattle.cluster_types.specs.Pins.{pin_of}
 use Rattle.cluster_types.specs.Plans.{IsPlaced}
 use Rattle.cluster_types.specs.Runs.{RunStanding, due, amid, idle, RunsOn, plans, goes, completes, aborts, answers, Runs, journal_at}
-use Rattle.cluster_types.specs.Steps.{Applies, answer_events, resting}
+use Rattle.cluster_types.specs.Steps.{Applies, answer_events, idling}
 use Rattle.cluster_types.specs.Tables.{targets_of}
 use Rattle.cluster_types.specs.Texts.{PassedFits, all_passed_lines, end_lines, event_lines, target_lines}
-use Rattle.run_safety.specs.Kept.{AreWithin, AreLinesKept}
+use Rattle.run_safety.specs.KeptLines.{AreWithin, AreLinesKept}
 use Rattle.run_safety.proofs.Along.{along}
 use Rattle.run_safety.proofs.Kept.{between_passed, one_passed_more}
 use Rattle.run_safety.proofs.Printed.{answer_line}
@@ -117,16 +117,16 @@ module _ (c : Cluster) where
   counted_more : (ps : List Passed) (p : Passed) → length (ps ++ p ∷ []) ≡ 1 + length ps
   counted_more ps p = let n = length-append ps (p ∷ []) in omega (arith, n)
 
-  idle_answer : (k : ℕ) (es : List Event) (given : Answer) (lines : List RunLine) (passed : List Passed) → k ≡ length passed → 0 < k → IsBetweenKept lines passed es → Applies (resting c es) [] given
-      → IsBetweenKept (lines ++ line.Taken given ∷ []) passed (es ++ answer_events (resting c es) [] given)
+  idle_answer : (k : ℕ) (es : List Event) (given : Answer) (lines : List RunLine) (passed : List Passed) → k ≡ length passed → 0 < k → IsBetweenKept lines passed es → Applies (idling c es) [] given
+      → IsBetweenKept (lines ++ line.Taken given ∷ []) passed (es ++ answer_events (idling c es) [] given)
   idle_answer k es given lines [] e low kept applies = absurd (let f : ⊥ = omega (arith, e, low) in f)
   idle_answer k es given lines (q ∷ qs) e low kept applies =
-      let ys = answer_events (resting c es) [] given in
+      let ys = answer_events (idling c es) [] given in
       let n = length-append es ys in
       record {
         within = still_within (length es) (length (es ++ ys)) (q ∷ qs) (omega (arith, n)) kept.within;
         fit = fit_more es ys (q ∷ qs) kept.fit;
-        so_far = ap (λ z. z ++ line.Taken given ∷ []) kept.so_far ∙ ap (λ z. all_passed_lines c es 1 (q ∷ qs) ++ z) (sym (answer_line (resting c es) [] given applies))
+        so_far = ap (λ z. z ++ line.Taken given ∷ []) kept.so_far ∙ ap (λ z. all_passed_lines c es 1 (q ∷ qs) ++ z) (sym (answer_line (idling c es) [] given applies))
             ∙ sym (between_passed es ys c 1 q qs kept.within);
       }
 

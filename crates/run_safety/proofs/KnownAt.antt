@@ -13,11 +13,11 @@ use Rattle.cluster_types.specs.declared.journal.Event.{Event}
 use Rattle.cluster_types.specs.declared.journal.Event.TheVariants.{Wait, Begin, Ended}
 use Rattle.cluster_types.specs.declared.states.CellState.{CellState}
 use Rattle.cluster_types.specs.declared.states.CellState.TheVariants as cell
-use Rattle.cluster_types.specs.CellStates.{is_blocked, last_outcome, wants_block}
+use Rattle.cluster_types.specs.CellStates.{is_blocked, last_outcome, asks_for_block}
 use Rattle.cluster_types.specs.Failures.{ended_at, failures_in_force, is_failure, is_forgotten, outcomes}
 use Rattle.cluster_types.specs.Fields.{failure_timeout}
 use Rattle.cluster_types.specs.Journals.{joined, last_sign, moment_of, seconds_of}
-use Rattle.cluster_types.specs.NodeStates.{is_online, is_to_blame, wants_fence}
+use Rattle.cluster_types.specs.NodeStates.{is_online, is_to_blame, asks_for_fence}
 use Rattle.cluster_types.specs.Pins.{is_pinned, is_unprobed_state}
 use Rattle.cluster_types.specs.Steps.{Transition, journal}
 use Rattle.cluster_types.specs.Tables.{Targets}
@@ -63,9 +63,9 @@ module _ (t : Transition) (since : List Event) (calm : Calm t since) where
     where
       blamed : is_to_blame t.cluster n (journal t since) ≡ is_to_blame t.cluster n t.planned_at
       blamed =
-          any-same (λ r. list_any (wants_fence t.cluster) (failures_in_force t.cluster r n (journal t since)))
-          (λ r. list_any (wants_fence t.cluster) (failures_in_force t.cluster r n t.planned_at)) (length t.cluster.leaves)
-          (λ r low. ap (list_any (wants_fence t.cluster)) (failures_same r n))
+          any-same (λ r. list_any (asks_for_fence t.cluster) (failures_in_force t.cluster r n (journal t since)))
+          (λ r. list_any (asks_for_fence t.cluster) (failures_in_force t.cluster r n t.planned_at)) (length t.cluster.leaves)
+          (λ r low. ap (list_any (asks_for_fence t.cluster)) (failures_same r n))
 
       blameless : is_to_blame t.cluster n t.planned_at ≡ false
       blameless =
@@ -103,7 +103,7 @@ module _ (t : Transition) (since : List Event) (calm : Calm t since) where
             let no_failures : failures_in_force t.cluster r n t.planned_at ≡ [] = ap (filter is_failure) empty in
             rw no_failures (nothing (is_forgotten (failure_timeout t.cluster r) (moment_of t.planned_at) []))
           where
-            nothing : (b : Bool) → option_map_or (wants_block t.cluster) (last_or None (if b then [] else [])) false ≡ false
+            nothing : (b : Bool) → option_map_or (asks_for_block t.cluster) (last_or None (if b then [] else [])) false ≡ false
             nothing true = refl
             nothing false = refl
 

@@ -11,8 +11,8 @@ use Rattle.cluster_types.specs.declared.journal.Answer.{Answer}
 use Rattle.cluster_types.specs.declared.journal.Event.{Event}
 use Rattle.cluster_types.specs.declared.journal.Event.TheVariants.{Up, Lost, Quorum, Wait, Ended}
 use Rattle.cluster_types.specs.declared.journal.Outcome.TheVariants.{Code, Gone}
-use Rattle.cluster_types.specs.Answering.{end_event, monitor_action, tells_news}
-use Rattle.cluster_types.specs.Journals.{joined, Orderly, ends_number, is_on, last_sign, sign_of, wants_node}
+use Rattle.cluster_types.specs.AnswersThatApply.{end_event, monitor_action, tells_news}
+use Rattle.cluster_types.specs.Journals.{joined, Orderly, ends_number, is_on, last_sign, sign_of, needs_node}
 use Rattle.cluster_types.specs.NodeStates.{is_online}
 use Rattle.cluster_types.specs.Steps.{Transition, Goes, here, one_more, aborts, action_at, begins_number, in_flight_by_number, has_aborted, is_number_in_flight, journal}
 use Rattle.cluster_types.proofs.StepLaws.{split, not_aborted, begins_nothing, joined_all, map_all}
@@ -27,7 +27,7 @@ use Rattle.run_safety.proofs.Standing.{KeepsToNodes, Stands}
 module _ (t : Transition) (since : List Event) where
   -- an end in a loss: it shows nothing of any node, finds its own there, and begins nothing
   abbrev Ends : Event → Type 0
-  Ends e = ((m : ℕ) → sign_of m e ≡ None) × ((m : ℕ) → wants_node m e ≡ true → last_sign m (journal t since) ≡ Some joined) × ((k : ℕ) → begins_number k e ≡ false)
+  Ends e = ((m : ℕ) → sign_of m e ≡ None) × ((m : ℕ) → needs_node m e ≡ true → last_sign m (journal t since) ≡ Some joined) × ((k : ℕ) → begins_number k e ≡ false)
 
   module _ (keeps : KeepsToNodes t) (stands : Stands t since) (n : ℕ) where
     ends : Each Ends (gone_with t since n)
@@ -46,7 +46,7 @@ module _ (t : Transition) (since : List Event) where
         let parts = each_at Ends (gone_with t since n) front rest e ends p in
         still m (journal t since) front (each_map Ends (λ d. sign_of m d ≡ None) (λ d h. h.0 m) front parts.0) ∙ parts.1.1 m w)
         (λ f p r. at_only (last_sign m (journal t since ++ front) ≡ Some joined) (Lost n) e f after r (λ g same.
-        let no : wants_node m (Lost n) ≡ true = subst (λ z. wants_node m z ≡ true) (sym same) w in
+        let no : needs_node m (Lost n) ≡ true = subst (λ z. needs_node m z ≡ true) (sym same) w in
         absurd (let f : ⊥ = cc in f))))
 
     -- what is still in flight is on another node

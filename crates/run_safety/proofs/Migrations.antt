@@ -14,9 +14,9 @@ use Rattle.cluster_types.specs.declared.states.CellState.{CellState}
 use Rattle.cluster_types.specs.declared.states.CellState.TheVariants as cell
 use Rattle.cluster_types.specs.Choice.{cap_of}
 use Rattle.cluster_types.specs.Fields.{copies, is_cloned, is_promotable}
-use Rattle.cluster_types.specs.Lawful.{role_count}
+use Rattle.cluster_types.specs.LawfulTables.{role_count}
 use Rattle.cluster_types.specs.May.{may_be_running, is_left_promoted}
-use Rattle.cluster_types.specs.Needed.{Migrates, sent}
+use Rattle.cluster_types.specs.NeededActions.{Migrates, sent}
 use Rattle.cluster_types.specs.Steps.{Transition, journal}
 use Rattle.cluster_types.specs.Tables.{Targets, is_somewhere}
 use Rattle.cluster_types.specs.Valid.{IsValid}
@@ -64,7 +64,7 @@ module _ (t : Transition) (targets : Targets) (carries : Carries t targets) (sou
         unpromoted true e h = cc
 
         by : (z : CellState) → state t r m ≡ z → is_promoted_state (state t r m) ≡ false
-        by cell.Promoted e = unpromoted (is_promotable t.cluster r) g.plain (says_of t.cluster r m t.planned_at cell.Promoted e).4
+        by cell.Promoted e = unpromoted (is_promotable t.cluster r) g.not_promotable (says_of t.cluster r m t.planned_at cell.Promoted e).4
         by cell.Away e = rw e refl
         by cell.Unprobed e = rw e refl
         by cell.Blocked e = rw e refl

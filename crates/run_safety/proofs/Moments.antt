@@ -13,10 +13,10 @@ use Rattle.cluster_types.specs.declared.journal.Outcome.{Outcome}
 use Rattle.cluster_types.specs.declared.journal.Outcome.TheVariants.{Code, TimedOut, Gone}
 use Rattle.cluster_types.specs.declared.journal.Promotion.{Promotion}
 use Rattle.cluster_types.specs.declared.run.RunLine.{RunLine}
-use Rattle.cluster_types.specs.Answering.{is_number_of, most_from_outside}
+use Rattle.cluster_types.specs.AnswersThatApply.{is_number_of, most_from_outside}
 use Rattle.cluster_types.specs.Journals.{is_on, moment_of, seconds_of}
 use Rattle.cluster_types.specs.Runs.{RunStanding, RunsOn, plans, goes, completes, aborts, answers, Runs, journal_at}
-use Rattle.cluster_types.specs.Steps.{Transition, StepsOn, begins, takes, is_silent, Applies, answer_events, in_flight_by_number, journal, count_from_outside, resting, silent_code}
+use Rattle.cluster_types.specs.Steps.{Transition, StepsOn, begins, takes, is_silent, Applies, answer_events, in_flight_by_number, journal, count_from_outside, idling, silent_code}
 use Rattle.lemmas.proofs.Booleans.{later}
 use Rattle.run_safety.proofs.Along.{along}
 
@@ -62,7 +62,7 @@ module _ (c : Cluster) (promotions : List Promotion) (whole : Bool) where
   one_moment _ _ rest _ _ (completes k t since _ over unaborted) low = low
   one_moment _ _ rest _ _ (aborts k t since _ over aborted) low = low
   one_moment _ _ rest left _ (answers k es _ _ given said applies) low =
-      let t = resting c es in
+      let t = idling c es in
       let same : journal t [] ≡ es = append-nil es in
       joined_moment es (answer_events t [] given) (subst (λ z. moment_of z + sum_by seconds_of (answer_events t [] given) < 2 ^ 40) same
       (answer_seconds t [] given applies (subst (λ z. moment_of z < 2 ^ 40) (sym same) low)))

@@ -9,7 +9,7 @@ use Rattle.cluster_types.specs.declared.leaf.Op.TheVariants as op
 use Rattle.cluster_types.specs.declared.leaf.Role.TheVariants as role
 use Rattle.cluster_types.specs.declared.states.CellState.{CellState}
 use Rattle.cluster_types.specs.CellStates.{cell_state}
-use Rattle.cluster_types.specs.Needed.{Cycled, fence, probe, step, Needed, kept, GetsStep, runs}
+use Rattle.cluster_types.specs.NeededActions.{Cycled, fence, probe, step, Needed, kept, GetsStep, runs}
 use Rattle.cluster_types.specs.NodeStates.{is_online}
 use Rattle.cluster_types.specs.Pins.{is_unprobed_state}
 use Rattle.cluster_types.specs.Rights.{may_start, is_to_be_fenced}

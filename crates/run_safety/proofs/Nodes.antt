@@ -12,8 +12,8 @@ use Rattle.cluster_types.specs.declared.states.CellState.TheVariants as cell
 use Rattle.cluster_types.specs.declared.states.NodeState.{NodeState}
 use Rattle.cluster_types.specs.declared.states.NodeState.TheVariants as node
 use Rattle.cluster_types.specs.CellStates.{cell_state}
-use Rattle.cluster_types.specs.Journals.{wants_node}
-use Rattle.cluster_types.specs.Needed.{NeededBeforeMigration, fence, probe, step, monitor, Needed, kept, sent, taken_in}
+use Rattle.cluster_types.specs.Journals.{needs_node}
+use Rattle.cluster_types.specs.NeededActions.{NeededBeforeMigration, fence, probe, step, monitor, Needed, kept, sent, taken_in}
 use Rattle.cluster_types.specs.NodeStates.{is_online, is_online_state, is_unclean_state, is_standby, node_state}
 use Rattle.cluster_types.specs.Pins.{is_unprobed_state}
 use Rattle.cluster_types.specs.Rights.{may_fence}
@@ -49,14 +49,14 @@ module _ (t : Transition) (targets : Targets) (carries : Carries t targets) (sou
   is_on_state cell.On = true
   is_on_state _ = false
 
-  first_online : (k n : ℕ) (a : Action) → NeededBeforeMigration t.cluster t.planned_at targets a → wants_node n (Begin k a) ≡ true → is_online t.cluster n t.planned_at ≡ true
+  first_online : (k n : ℕ) (a : Action) → NeededBeforeMigration t.cluster t.planned_at targets a → needs_node n (Begin k a) ≡ true → is_online t.cluster n t.planned_at ≡ true
   first_online k n _ (fence m l e) h = cc
   first_online k n _ (probe r m g l e) h = at_node m n h (online_by is_unprobed_state refl r m e)
   first_online k n _ (step r m o g l gets) h = at_node m n h (step_online r m o (is_step t.cluster t.planned_at targets r m o gets))
   first_online k n _ (monitor r m w g l has needs) h =
       at_node m n h (sooner _ (not (is_standby t.cluster m)) (sound.lawful.cells r m g l needs.0 (monitored_somewhere w.role (targets r m) needs.1)).usable)
 
-  needed_online : (k n : ℕ) (a : Action) → Needed t.cluster t.planned_at targets a → wants_node n (Begin k a) ≡ true → is_online t.cluster n t.planned_at ≡ true
+  needed_online : (k n : ℕ) (a : Action) → Needed t.cluster t.planned_at targets a → needs_node n (Begin k a) ≡ true → is_online t.cluster n t.planned_at ≡ true
   needed_online k n a (kept _ f others) h = first_online k n a f h
   needed_online k n _ (sent r from m g) h =
       either (from == n) (m == n) h (λ e. at_node from n e (source from g.running)) (λ e. at_node m n e (step_online r m op.Start (start_step t.cluster t.planned_at targets r m g.started)))

@@ -12,9 +12,9 @@ use Rattle.cluster_types.specs.declared.leaf.OnFail.{OnFail}
 use Rattle.cluster_types.specs.declared.leaf.OnFail.TheVariants as on_fail
 use Rattle.cluster_types.specs.declared.leaf.Op.TheVariants.{Start, Promote, Demote, Monitor}
 use Rattle.cluster_types.specs.Failures.{failures_in_force}
-use Rattle.cluster_types.specs.Journals.{NodeSign, joined, went_down, was_lost, was_fenced, Orderly, last_sign, sign_of, wants_node}
+use Rattle.cluster_types.specs.Journals.{NodeSign, joined, went_down, was_lost, was_fenced, Orderly, last_sign, sign_of, needs_node}
 use Rattle.cluster_types.specs.May.{may_be_running, opens, closes, opens_cell}
-use Rattle.cluster_types.specs.NodeStates.{is_online, is_online_state, is_unclean, is_to_blame, state_by, wants_fence}
+use Rattle.cluster_types.specs.NodeStates.{is_online, is_online_state, is_unclean, is_to_blame, state_by, asks_for_fence}
 use Rattle.cluster_types.specs.Outcomes.{effective, is_code_among, is_fence, action_fail}
 use Rattle.cluster_types.proofs.MayLaws.{may-last}
 use Rattle.cluster_types.proofs.LastSigns.{signed}
@@ -46,7 +46,7 @@ orderly_front : (es : List Event) (e : Event) → Orderly (es ++ e ∷ []) → O
 orderly_front es e h before after d n q w = h before (after ++ e ∷ []) d n (ap (λ xs. xs ++ e ∷ []) q ∙ append_assoc before (d ∷ after) (e ∷ [])) w
 
 -- what opens a cell wants its node, or the node joins by it
-opens_wants : (r n : ℕ) (e : Event) → opens_cell r n e ≡ true → (wants_node n e ≡ true) ⊎ (sign_of n e ≡ Some joined)
+opens_wants : (r n : ℕ) (e : Event) → opens_cell r n e ≡ true → (needs_node n e ≡ true) ⊎ (sign_of n e ≡ Some joined)
 opens_wants r n (Up node) h = inr (rw h refl)
 opens_wants r n (Begin k (Operation Start leaf node interval role)) h = inl (later (leaf == r) (node == n) h)
 opens_wants r n (Begin k (Operation Promote leaf node interval role)) h = inl (later (leaf == r) (node == n) h)
@@ -107,7 +107,7 @@ module _ (c : Cluster) (r n : ℕ) where
           unopened was false g = rw g refl
           unopened was true g = wanted (opens_wants r n e g)
             where
-              wanted : (wants_node n e ≡ true) ⊎ (sign_of n e ≡ Some joined) → opens c r n e ≡ false
+              wanted : (needs_node n e ≡ true) ⊎ (sign_of n e ≡ Some joined) → opens c r n e ≡ false
               wanted (inl w) =
                   let there = orderly es [] e n refl w in
                   refuse (is_out c.properties.fencing (last_sign n es)) (rw there refl) was
@@ -133,9 +133,9 @@ unfenced on_fail.Block = refl
 
 module _ (c : Cluster) (n : ℕ) (es : List Event) where
   blames_no_one : c.properties.fencing ≡ false → is_to_blame c n es ≡ false
-  blames_no_one off = any_none _ (λ r. any_none (wants_fence c) none_wants (failures_in_force c r n es)) (range_with_len 0 (length c.leaves))
+  blames_no_one off = any_none _ (λ r. any_none (asks_for_fence c) none_wants (failures_in_force c r n es)) (range_with_len 0 (length c.leaves))
     where
-      none_wants : (e : Event) → wants_fence c e ≡ false
+      none_wants : (e : Event) → asks_for_fence c e ≡ false
       none_wants (Ended k a o moment) = rw off (unfenced (action_fail c a))
       none_wants (Up node) = refl
       none_wants (Down node) = refl

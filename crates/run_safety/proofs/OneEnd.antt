@@ -9,8 +9,8 @@ use Rattle.cluster_types.specs.declared.journal.Promotion.{Promotion}
 use Rattle.cluster_types.specs.declared.run.RunLine.{RunLine}
 use Rattle.cluster_types.specs.Runs.{RunStanding, due, amid, idle, RunsOn, plans, goes, completes, aborts, answers, Runs, here, one_more, IsOver, IsCutAt, IsCutRun, IsWholeRun, journal_at}
 use Rattle.cluster_types.specs.Sources.{Says}
-use Rattle.cluster_types.specs.Steps.{Transition, StepsOn, begins, takes, is_silent, Applies, IsWaiting, resting}
-use Rattle.run_safety.specs.Followed.{AreAnswersTold, GoesOn, AreOnOneWay, this_first, other_first}
+use Rattle.cluster_types.specs.Steps.{Transition, StepsOn, begins, takes, is_silent, Applies, IsWaiting, idling}
+use Rattle.run_safety.specs.TwoRuns.{AreAnswersTold, GoesOn, AreOnOneWay, this_first, other_first}
 use Rattle.run_safety.specs.OnePlan.{PlansAreOne}
 use Rattle.run_safety.proofs.OneRun.{one_way, runs_told}
 use Rattle.run_safety.proofs.OneStep.{ended_waits, unsettled}
@@ -45,7 +45,7 @@ module _ (c : Cluster) (promotions : List Promotion) (whole : Bool) where
   cut_stuck _ rest left given told cut _ _ _ (aborts k t since _ ended aborted) = ended_waits t since ended cut.asking
   cut_stuck _ rest left given told cut _ _ next (answers k es _ _ other also applies) =
       let same = same_Some other given (says_one whole rest next left (Some other) (Some given) told also cut.said).0 in
-      cut.refused (subst (λ z. Applies (resting c es) [] z) same applies)
+      cut.refused (subst (λ z. Applies (idling c es) [] z) same applies)
 
   stuck_here : (at later : RunStanding) (rest left : Option (List Answer)) (lines : List RunLine) → IsStuck at rest → Runs c promotions whole at rest lines later left
       → (lines ≡ []) × (at ≡ later) × (rest ≡ left)

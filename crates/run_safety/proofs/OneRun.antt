@@ -14,10 +14,10 @@ use Rattle.cluster_types.specs.declared.run.RunLine.TheVariants as line
 use Rattle.cluster_types.specs.Plans.{IsPlan, transition_of}
 use Rattle.cluster_types.specs.Runs.{RunStanding, due, amid, idle, RunsOn, plans, goes, completes, aborts, answers, Runs, here, one_more}
 use Rattle.cluster_types.specs.Sources.{Says}
-use Rattle.cluster_types.specs.Steps.{Transition, StepsOn, begins, takes, is_silent, HasEnded, answer_events, has_aborted, journal, resting}
+use Rattle.cluster_types.specs.Steps.{Transition, StepsOn, begins, takes, is_silent, HasEnded, answer_events, has_aborted, journal, idling}
 use Rattle.cluster_types.specs.Tables.{targets_of}
 use Rattle.cluster_types.specs.Texts.{event_lines, target_lines}
-use Rattle.run_safety.specs.Followed.{AreAnswersTold, AreOnOneWay, this_first, other_first}
+use Rattle.run_safety.specs.TwoRuns.{AreAnswersTold, AreOnOneWay, this_first, other_first}
 use Rattle.run_safety.specs.OnePlan.{PlansAreOne}
 use Rattle.run_safety.proofs.OneStep.{step_one, ended_goes}
 use Rattle.run_safety.proofs.Said.{says_one, stays_told}
@@ -81,11 +81,11 @@ module _ (c : Cluster) (promotions : List Promotion) (whole : Bool) where
 
     answer_one : (k : ℕ) (es : List Event) (given : Answer) (left : Option (List Answer)) → Says whole rest (Some given) left
         → (others : List RunLine) (after : RunStanding) (other : Option (List Answer)) → RunsOn c promotions whole (idle k es) rest others after other
-        → (line.Taken given ∷ [] ≡ others) × (due (k + 1) (es ++ answer_events (resting c es) [] given) ≡ after) × (left ≡ other)
+        → (line.Taken given ∷ [] ≡ others) × (due (k + 1) (es ++ answer_events (idling c es) [] given) ≡ after) × (left ≡ other)
     answer_one k es given left one _ _ other (answers _ _ _ _ also two applies) =
         let same = says_one whole rest left other (Some given) (Some also) told one two in
         let e : given ≡ also = cc in
-        (ap (λ z. line.Taken z ∷ []) e, ap (λ z. due (k + 1) (es ++ answer_events (resting c es) [] z)) e, same.1)
+        (ap (λ z. line.Taken z ∷ []) e, ap (λ z. due (k + 1) (es ++ answer_events (idling c es) [] z)) e, same.1)
 
     pub run_one : (at next after : RunStanding) (lines others : List RunLine) (left other : Option (List Answer)) → RunsOn c promotions whole at rest lines next left
         → RunsOn c promotions whole at rest others after other → (lines ≡ others) × (next ≡ after) × (left ≡ other)

@@ -11,7 +11,7 @@ use Rattle.cluster_types.specs.Sources.{Says}
 use Rattle.cluster_types.specs.Steps.{Transition, Begins, StepsOn, begins, takes, is_silent, HasEnded, IsWaiting, EndsSilently, action_at, ended, answer_events, numbers_in_flight, has_aborted, has_begun, has_room, is_settled, may_begin, numbers, silent_code}
 use Rattle.lemmas.proofs.Booleans.{sooner}
 use Rattle.std.proofs.lemmas.Bool.{not-true}
-use Rattle.run_safety.specs.Followed.{AreAnswersTold}
+use Rattle.run_safety.specs.TwoRuns.{AreAnswersTold}
 use Rattle.run_safety.proofs.Said.{says_one, some_or_none}
 
 -- one that passes stands in the list

@@ -10,7 +10,7 @@ use Rattle.cluster_types.specs.declared.journal.Promotion.{Promotion}
 use Rattle.cluster_types.specs.Runs.{amid, goes, Runs, here, one_more}
 use Rattle.cluster_types.specs.Steps.{Transition, Goes, HasEnded, here as there, one_more as one_further}
 use Rattle.cluster_types.specs.Texts.{event_lines}
-use Rattle.run_safety.specs.Followed.{AreAnswersTold, IsPartOfRun}
+use Rattle.run_safety.specs.TwoRuns.{AreAnswersTold, IsPartOfRun}
 use Rattle.run_safety.proofs.OneRun.{step_told}
 use Rattle.run_safety.proofs.OneStep.{ended_goes, step_one}
 

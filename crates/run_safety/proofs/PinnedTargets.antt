@@ -44,9 +44,9 @@ same_target target.Promoted target.Started f = let e = f role.Promoted in absurd
 module _ (c : Cluster) (es : List Event) where
   -- only what isn't pinned is held back
   held_is_free : (table : Targets) (d : Decision) (n : ℕ) → Held c es table d n → is_pinned c es (leaf_of d) ≡ false
-  held_is_free table _ n (by_order o _ may_hold lacks) = subst (λ z. is_pinned c es z ≡ false) (sym (decided_leaf o.then_leaf (role_given o.then_op))) may_hold.managed
+  held_is_free table _ n (by_order o _ may_hold lacks) = subst (λ z. is_pinned c es z ≡ false) (sym (decided_leaf o.then_leaf (role_given o.then_op))) may_hold.not_pinned
   held_is_free table _ n (by_colocation col _ may_hold lacks) =
-      subst (λ z. is_pinned c es z ≡ false) (sym (decided_leaf col.dependent col.dependent_role)) may_hold.managed
+      subst (λ z. is_pinned c es z ≡ false) (sym (decided_leaf col.dependent col.dependent_role)) may_hold.not_pinned
   held_is_free table _ n (by_place r _ h held) = held_is_free table (Place r) n held
 
   module _ (ps : List Promotion) (placed : Placed) (is : IsPlaced c es ps placed) (r n : ℕ) (low : r < length c.leaves) (within : n < length c.nodes)

@@ -10,7 +10,7 @@ use Rattle.cluster_types.specs.declared.leaf.Op.{Op}
 use Rattle.cluster_types.specs.declared.leaf.Op.TheVariants as op
 use Rattle.cluster_types.specs.declared.leaf.Role.TheVariants as role
 use Rattle.cluster_types.specs.CellStates.{cell_state}
-use Rattle.cluster_types.specs.Needed.{NeededBeforeMigration, fence, probe, step, monitor, Needed, kept, sent, taken_in}
+use Rattle.cluster_types.specs.NeededActions.{NeededBeforeMigration, fence, probe, step, monitor, Needed, kept, sent, taken_in}
 use Rattle.cluster_types.specs.Pins.{is_pinned}
 use Rattle.cluster_types.specs.Precedence.{CellOf, cell_of, gives_any}
 use Rattle.cluster_types.specs.Tables.{Targets, is_somewhere}

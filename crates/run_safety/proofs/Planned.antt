@@ -11,7 +11,7 @@ use Rattle.cluster_types.specs.declared.leaf.Role.TheVariants as role
 use Rattle.cluster_types.specs.declared.placement.Placed.{Placed}
 use Rattle.cluster_types.specs.Graphs.{GraphOf}
 use Rattle.plan_laws.proofs.NeededSteps.{started, promoted}
-use Rattle.cluster_types.specs.Needed.{NeededBeforeMigration, fence, probe, step, monitor, Needed, kept, sent, taken_in}
+use Rattle.cluster_types.specs.NeededActions.{NeededBeforeMigration, fence, probe, step, monitor, Needed, kept, sent, taken_in}
 use Rattle.cluster_types.specs.Plans.{CarriesOut, IsPlaced, IsPlan, precedes_by_number, transition_of, transition_on}
 use Rattle.cluster_types.specs.Precedence.{gives_any, is_some_cell}
 use Rattle.cluster_types.specs.Rights.{may_start}

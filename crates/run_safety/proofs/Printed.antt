@@ -12,7 +12,7 @@ use Rattle.cluster_types.specs.declared.journal.Event.{Event}
 use Rattle.cluster_types.specs.declared.journal.Event.TheVariants.{Lost, Ended}
 use Rattle.cluster_types.specs.declared.journal.Outcome.TheVariants.{Code, TimedOut, Gone}
 use Rattle.cluster_types.specs.declared.run.RunLine.TheVariants as line
-use Rattle.cluster_types.specs.Answering.{end_event, is_number_of}
+use Rattle.cluster_types.specs.AnswersThatApply.{end_event, is_number_of}
 use Rattle.cluster_types.specs.Journals.{is_on, moment_of}
 use Rattle.cluster_types.specs.Steps.{Transition, Applies, ended, answer_events, in_flight_by_number, journal}
 use Rattle.cluster_types.specs.Texts.{event_lines}

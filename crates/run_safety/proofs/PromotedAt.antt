@@ -17,7 +17,7 @@ use Rattle.cluster_types.specs.declared.states.CellState.TheVariants as cell
 use Rattle.cluster_types.specs.Fields.{is_promotable}
 use Rattle.cluster_types.specs.Journals.{Orderly}
 use Rattle.cluster_types.specs.May.{may_be_promoted, is_left_promoted}
-use Rattle.cluster_types.specs.Needed.{Cycled, runs, steps_of, is_monitor_for}
+use Rattle.cluster_types.specs.NeededActions.{Cycled, runs, steps_of, is_monitor_for}
 use Rattle.cluster_types.specs.NodeStates.{is_online}
 use Rattle.cluster_types.specs.Pins.{is_pinned, is_unprobed_state}
 use Rattle.cluster_types.specs.Steps.{Transition, action_at, has_succeeded, journal}

@@ -7,7 +7,7 @@ use Rattle.cluster_types.specs.declared.placement.Target.{Target}
 use Rattle.cluster_types.specs.declared.placement.Target.TheVariants as target
 use Rattle.cluster_types.specs.declared.states.CellState.{CellState}
 use Rattle.cluster_types.specs.declared.states.CellState.TheVariants as cell
-use Rattle.cluster_types.specs.Needed.{steps_of}
+use Rattle.cluster_types.specs.NeededActions.{steps_of}
 
 -- a promote among the steps of what isn't promoted yet
 abbrev pub is_fresh : CellState → Bool

@@ -15,7 +15,7 @@ use Rattle.cluster_types.specs.declared.placement.Decision.TheVariants.{Promote}
 use Rattle.cluster_types.specs.Choice.{cap_of, is_stopped_role, is_unpromoted_role}
 use Rattle.cluster_types.specs.Fields.{copies, is_promotable, promoted_copies, target_role_of}
 use Rattle.cluster_types.specs.Journals.{Orderly}
-use Rattle.cluster_types.specs.Lawful.{role_count}
+use Rattle.cluster_types.specs.LawfulTables.{role_count}
 use Rattle.cluster_types.specs.May.{may_be_promoted, is_left_promoted}
 use Rattle.cluster_types.specs.Precedence.{op_cell}
 use Rattle.cluster_types.specs.Safety.{AddsNoPromoted, NoSecondPromotion}

@@ -10,7 +10,7 @@ use Rattle.cluster_types.specs.declared.run.RunLine.{RunLine}
 use Rattle.cluster_types.specs.Journals.{Orderly, in_flight_by_begin}
 use Rattle.cluster_types.specs.Runs.{RunStanding, due, amid, idle, RunsOn, plans, goes, completes, aborts, answers, Runs, IsBetween, journal_at}
 use Rattle.cluster_types.specs.Safety.{IsAtRest, IsSafeAt, IsSafeRun}
-use Rattle.cluster_types.specs.Steps.{Goes, here as none_yet, action_at, answer_events, resting}
+use Rattle.cluster_types.specs.Steps.{Goes, here as none_yet, action_at, answer_events, idling}
 use Rattle.cluster_types.proofs.SourceLaws.{goes-more, none-in_flight, step-untold}
 use Rattle.cluster_types.proofs.JournalLaws.{nothing_begun}
 use Rattle.run_safety.proofs.AtRest.{nothing_left}
@@ -19,7 +19,7 @@ use Rattle.run_safety.proofs.SafeRuns.{silent}
 use Rattle.run_safety.proofs.Shapes.{answer_adds}
 use Rattle.run_safety.proofs.Along.{along}
 
-no_action : (c : Cluster) (es : List Event) (k : ℕ) (a : Action) → action_at (resting c es) k ≡ Some a → ⊥
+no_action : (c : Cluster) (es : List Event) (k : ℕ) (a : Action) → action_at (idling c es) k ≡ Some a → ⊥
 no_action c es k a is = let within = number_within [] k a is in let f : ⊥ = omega (arith, within.0, within.1) in f
 
 module _ (c : Cluster) (promotions : List Promotion) (whole : Bool) where
@@ -36,7 +36,7 @@ module _ (c : Cluster) (promotions : List Promotion) (whole : Bool) where
   one_rests _ _ rest _ _ (completes k t since _ ended unaborted) at = nothing_left t whole None None since at.0 at.1 ended.idle
   one_rests _ _ rest _ _ (aborts k t since _ ended aborted) at = nothing_left t whole None None since at.0 at.1 ended.idle
   one_rests _ _ rest left _ (answers k es _ _ given said applies) at =
-      let t = resting c es in
+      let t = idling c es in
       none-in_flight es (answer_events t [] given) at
       ∙ nothing_begun (answer_events t [] given) (silent t [] (answer_events t [] given) (λ k a begins. no_action c es k a begins.action) (answer_adds t [] given applies))
 

@@ -13,7 +13,7 @@ use Rattle.cluster_types.specs.declared.placement.Target.TheVariants as target
 use Rattle.cluster_types.specs.declared.states.CellState.{CellState}
 use Rattle.cluster_types.specs.declared.states.CellState.TheVariants as cell
 use Rattle.cluster_types.specs.May.{may_be_running, may_be_promoted}
-use Rattle.cluster_types.specs.Needed.{Cycled, runs, steps_of}
+use Rattle.cluster_types.specs.NeededActions.{Cycled, runs, steps_of}
 use Rattle.cluster_types.specs.NodeStates.{is_online}
 use Rattle.cluster_types.specs.Pins.{is_pinned, is_unprobed_state}
 use Rattle.cluster_types.specs.Precedence.{is_same_op}

@@ -10,7 +10,7 @@ use Rattle.cluster_types.specs.declared.leaf.Op.TheVariants as op
 use Rattle.cluster_types.specs.declared.leaf.Role.TheVariants as role
 use Rattle.cluster_types.specs.Journals.{Orderly}
 use Rattle.cluster_types.specs.May.{may_be_running}
-use Rattle.cluster_types.specs.Needed.{Migrates, sent, taken_in}
+use Rattle.cluster_types.specs.NeededActions.{Migrates, sent, taken_in}
 use Rattle.cluster_types.specs.NodeStates.{is_online}
 use Rattle.cluster_types.specs.Pins.{is_unprobed_state}
 use Rattle.cluster_types.specs.Steps.{Transition, action_at, has_begun, has_succeeded, journal}

@@ -12,7 +12,7 @@ use Rattle.cluster_types.specs.declared.run.RunLine.{RunLine}
 use Rattle.cluster_types.specs.Plans.{IsPlan, transition_of}
 use Rattle.cluster_types.specs.Runs.{RunStanding, due, amid, idle, RunsOn, plans, goes, completes, aborts, answers, Runs, here, one_more}
 use Rattle.cluster_types.specs.Safety.{IsAtRest, IsSafeAt, IsSafeRun}
-use Rattle.cluster_types.specs.Steps.{Transition, Begins, Goes, StepsOn, here as none_yet, action_at, answer_events, numbers_in_flight, journal, resting, Applies}
+use Rattle.cluster_types.specs.Steps.{Transition, Begins, Goes, StepsOn, here as none_yet, action_at, answer_events, numbers_in_flight, journal, idling, Applies}
 use Rattle.cluster_types.specs.Valid.{IsValid}
 use Rattle.cluster_types.proofs.SourceLaws.{goes-more, none-in_flight, step-untold}
 use Rattle.cluster_types.proofs.StepLaws.{begins_nothing}
@@ -54,15 +54,15 @@ module _ (c : Cluster) (promotions : List Promotion) (whole : Bool) (valid : IsV
       )
 
   -- while nothing is to be done
-  idly : (es : List Event) (given : Answer) → IsAtRest es → Applies (resting c es) [] given → IsAtRest (es ++ answer_events (resting c es) [] given)
+  idly : (es : List Event) (given : Answer) → IsAtRest es → Applies (idling c es) [] given → IsAtRest (es ++ answer_events (idling c es) [] given)
   idly es given at applies =
-      let t = resting c es in (
+      let t = idling c es in (
         (add_stands t (record { online = λ k n a is w. never k a is; fences = λ k n is. never k _ is }) [] (answer_events t [] given) (at_first t
             (record { online = λ k n a is w. never k a is; fences = λ k n is. never k _ is }) at.0) (answer_adds t [] given applies)).orderly,
         none-in_flight es (answer_events t [] given) at.1 ∙ nothing_begun (answer_events t [] given) (silent t [] (answer_events t [] given) (λ k a begins. never k a begins.action) (answer_adds t [] given applies)),
       )
     where
-      never : {R : Type 0} (k : ℕ) (a : Action) → action_at (resting c es) k ≡ Some a → R
+      never : {R : Type 0} (k : ℕ) (a : Action) → action_at (idling c es) k ≡ Some a → R
       never k a is = let within = number_within [] k a is in absurd (let f : ⊥ = omega (arith, within.0, within.1) in f)
 
   one_step : (at next : RunStanding) (rest left : Option (List Answer)) (lines : List RunLine) → RunsOn c promotions whole at rest lines next left → StandsAt at → StandsAt next

@@ -3,7 +3,7 @@ use Rattle.std.proofs.Common.{◌≡◌, Bool, false, List, [], ◌∷◌, refl,
 use Rattle.std.specs.Prelude.{Option, Some, None}
 use Rattle.cluster_types.specs.declared.journal.Answer.{Answer}
 use Rattle.cluster_types.specs.Sources.{Says, told, used_up, untold}
-use Rattle.run_safety.specs.Followed.{AreAnswersTold}
+use Rattle.run_safety.specs.TwoRuns.{AreAnswersTold}
 
 -- what is said, read off the answers to come
 abbrev pub SaysJust : Option (List Answer) → Option Answer → Option (List Answer) → Type 0

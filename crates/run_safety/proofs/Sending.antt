@@ -14,7 +14,7 @@ use Rattle.cluster_types.specs.declared.leaf.Role.TheVariants as role
 use Rattle.cluster_types.specs.declared.states.CellState.TheVariants as cell
 use Rattle.cluster_types.specs.Fields.{is_promotable}
 use Rattle.cluster_types.specs.May.{may_be_running}
-use Rattle.cluster_types.specs.Needed.{NeededBeforeMigration, fence, probe, step, monitor, Migrates, Needed, kept, sent, taken_in}
+use Rattle.cluster_types.specs.NeededActions.{NeededBeforeMigration, fence, probe, step, monitor, Migrates, Needed, kept, sent, taken_in}
 use Rattle.cluster_types.specs.Steps.{Transition, Begins, action_at, has_begun, journal}
 use Rattle.cluster_types.specs.Tables.{Targets}
 use Rattle.cluster_types.specs.Valid.{IsValid}
@@ -48,7 +48,7 @@ module _ (t : Transition) (targets : Targets) (carries : Carries t targets) (sou
     there = on_target t targets carries sound valid r n to g
 
     plain : {R : Type 0} → is_promotable t.cluster r ≡ true → R
-    plain h = refuse (is_promotable t.cluster r) g.plain h
+    plain h = refuse (is_promotable t.cluster r) g.not_promotable h
 
     step_comes : (s m : ℕ) (o : Op) → IsStep t.cluster t.planned_at targets s m o → Needed t.cluster t.planned_at targets (Operation o s m 0 role.Started)
         → (Operation o s m 0 role.Started ≡ Operation op.Start r to 0 role.Started → ⊥) → gives_run r to (Operation o s m 0 role.Started) ≡ true → Comes (Operation o s m 0 role.Started)

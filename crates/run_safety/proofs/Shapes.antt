@@ -10,7 +10,7 @@ use Rattle.cluster_types.specs.declared.journal.Event.{Event}
 use Rattle.cluster_types.specs.declared.journal.Event.TheVariants.{Up, Lost, Quorum, Wait, Begin, Ended}
 use Rattle.cluster_types.specs.declared.journal.Outcome.{Outcome}
 use Rattle.cluster_types.specs.declared.journal.Outcome.TheVariants.{Code, TimedOut, Gone}
-use Rattle.cluster_types.specs.Answering.{end_event, is_number_of, is_joined_sign, monitor_action, tells_news}
+use Rattle.cluster_types.specs.AnswersThatApply.{end_event, is_number_of, is_joined_sign, monitor_action, tells_news}
 use Rattle.cluster_types.specs.Journals.{is_on, last_sign, moment_of}
 use Rattle.cluster_types.specs.Steps.{Transition, Begins, StepsOn, begins, takes, is_silent, Applies, action_at, ended, answer_events, numbers_in_flight, in_flight_by_number, is_number_in_flight, journal, numbers, silent_code}
 use Rattle.run_safety.proofs.Each.{Each, none, more, each_filter, each_flat, found}

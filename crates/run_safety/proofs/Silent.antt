@@ -14,14 +14,14 @@ use Rattle.cluster_types.specs.declared.journal.Promotion.{Promotion}
 use Rattle.cluster_types.specs.declared.leaf.Op.TheVariants.{Start, Stop, Promote, Demote, Monitor}
 use Rattle.cluster_types.specs.declared.leaf.Role.TheVariants as role
 use Rattle.cluster_types.specs.declared.run.RunLine.{RunLine}
-use Rattle.cluster_types.specs.Answering.{end_event, is_number_of}
+use Rattle.cluster_types.specs.AnswersThatApply.{end_event, is_number_of}
 use Rattle.cluster_types.specs.Journals.{moment_of}
 use Rattle.cluster_types.specs.Outcomes.{is_code_among}
 use Rattle.cluster_types.specs.Runs.{due, IsWholeRun, RunStanding, IsOver, idle, amid}
 use Rattle.cluster_types.specs.Steps.{Transition, StepsOn, begins, takes, is_silent, aborts, action_at, ended, expected_codes, in_flight_by_number, journal, silent_code}
 use Rattle.run_safety.proofs.Each.{found}
 use Rattle.run_safety.proofs.Shapes.{Flies, all_fly}
-use Rattle.run_safety.specs.Followed.{AreAnswersTold, IsNoSilentEnd, is_begin, is_taken}
+use Rattle.run_safety.specs.TwoRuns.{AreAnswersTold, IsNoSilentEnd, is_begin, is_taken}
 use Rattle.run_safety.proofs.OneRun.{runs_told}
 use Rattle.run_safety.proofs.Said.{says_something}
 

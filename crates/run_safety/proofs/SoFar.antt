@@ -9,7 +9,7 @@ use Rattle.cluster_types.specs.declared.run.RunLine.{RunLine}
 use Rattle.cluster_types.specs.Runs.{RunStanding, due, RunsOn, plans, goes, completes, aborts, answers, Runs, here, one_more, EndsByLine, not_yet, complete, aborted, IsAsking, IsCutRun, IsRunSoFar, IsStoppedRun, IsWholeRun, journal_at}
 use Rattle.cluster_types.specs.Sources.{Says}
 use Rattle.cluster_types.specs.Steps.{Transition, StepsOn, begins, takes, is_silent, IsWaiting}
-use Rattle.run_safety.specs.Followed.{AreAnswersTold, IsFront}
+use Rattle.run_safety.specs.TwoRuns.{AreAnswersTold, IsFront}
 use Rattle.run_safety.specs.OnePlan.{PlansAreOne}
 use Rattle.run_safety.proofs.Beginnings.{begins_whole}
 use Rattle.run_safety.proofs.OneEnd.{IsStuck, both_stuck, cut_run_stuck}

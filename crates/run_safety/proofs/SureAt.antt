@@ -15,7 +15,7 @@ use Rattle.cluster_types.specs.CellStates.{is_left_open}
 use Rattle.cluster_types.specs.Cells.{is_sent_to, is_same_cell}
 use Rattle.cluster_types.specs.Journals.{Orderly}
 use Rattle.cluster_types.specs.May.{may_be_running}
-use Rattle.cluster_types.specs.Needed.{NeededBeforeMigration, fence, probe, step, monitor, Migrates, kept, sent, taken_in, runs}
+use Rattle.cluster_types.specs.NeededActions.{NeededBeforeMigration, fence, probe, step, monitor, Migrates, kept, sent, taken_in, runs}
 use Rattle.cluster_types.specs.NodeStates.{is_online}
 use Rattle.cluster_types.specs.Pins.{is_pinned}
 use Rattle.cluster_types.specs.Steps.{Transition, action_at, has_succeeded, journal}

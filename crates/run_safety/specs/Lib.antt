@@ -1,4 +1,4 @@
 pub mod OfPlans
 pub mod OnePlan
-pub mod Followed
-pub mod Kept
+pub mod TwoRuns
+pub mod KeptLines

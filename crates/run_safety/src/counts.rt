@@ -8,7 +8,7 @@ ghost use Rattle.cluster_types.specs.declared.journal.Promotion.{Promotion as Pr
 ghost use Rattle.cluster_types.specs.declared.run.RunLine.{RunLine as LineOf};
 ghost use Rattle.cluster_types.specs.Runs.{RunStanding, due, Runs, IsBetween, IsRunUpTo, IsWholeRun};
 ghost use Rattle.cluster_types.specs.Steps.{Transition, StepsOn};
-ghost use Rattle.run_safety.specs.Followed.{EndsBetween, IsNoSilentEnd, AreAnswersTold, count_told, transition_number_at};
+ghost use Rattle.run_safety.specs.TwoRuns.{EndsBetween, IsNoSilentEnd, AreAnswersTold, count_told, transition_number_at};
 
 /// Each transition but the last takes an answer: the number of a transition is at most one more than the answers that were taken.
 pub fn transitions_are_few()

@@ -9,7 +9,7 @@ ghost use Rattle.cluster_types.specs.declared.journal.Promotion.{Promotion as Pr
 ghost use Rattle.cluster_types.specs.declared.run.RunLine.{RunLine as LineOf};
 ghost use Rattle.cluster_types.specs.Steps.{Transition, StepsOn, Goes, HasEnded};
 ghost use Rattle.cluster_types.specs.Runs.{RunStanding, RunsOn, Runs};
-ghost use Rattle.run_safety.specs.Followed.{AreAnswersTold, AreOnOneWay, IsPartOfRun};
+ghost use Rattle.run_safety.specs.TwoRuns.{AreAnswersTold, AreOnOneWay, IsPartOfRun};
 
 /// Where the answers to come are told, a transition goes on in one way.
 pub fn steps_are_determined()

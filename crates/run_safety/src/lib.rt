@@ -15,13 +15,14 @@ mod run_ends;
 mod runs;
 
 // How a run goes.
+mod answer_lines;
 mod counts;
 mod journals;
+mod kept_lines;
 mod laws;
 mod parts;
-mod passed;
-mod taken;
 
+pub use answer_lines::answers_print_their_lines;
 pub use counts::{
     enough_transitions_are_allowed, lines_between_transitions_end_one,
     no_run_is_whole_where_answers_lack, nothing_is_silent_where_answers_lack, transitions_are_few,
@@ -31,6 +32,10 @@ pub use journals::{
     moments_stay_bounded, nothing_is_in_flight_between_transitions,
     safe_runs_keep_journals_in_order,
 };
+pub use kept_lines::{
+    events_between_transitions_add_their_lines, one_more_transition_adds_its_lines,
+    runs_can_be_kept,
+};
 pub use laws::{
     one_of_two_runs_goes_on, runs_are_determined, steps_are_determined,
     transitions_are_parts_of_runs, transitions_end_in_one_way,
@@ -38,10 +43,6 @@ pub use laws::{
 pub use one_plan::plans_are_unique;
 pub use parts::{
     runs_go_on, runs_so_far_are_not_cut, runs_so_far_are_unique, stopped_runs_begin_the_whole_run,
-};
-pub use passed::{
-    events_between_transitions_add_their_lines, one_more_transition_adds_its_lines,
-    runs_can_be_kept,
 };
 pub use plans::plans_are_carried_out;
 pub use promises::{
@@ -54,4 +55,3 @@ pub use run_ends::{
     whole_runs_are_not_cut, whole_runs_are_unique,
 };
 pub use runs::runs_are_safe;
-pub use taken::answers_print_their_lines;

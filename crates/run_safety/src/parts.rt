@@ -7,7 +7,7 @@ ghost use Rattle.cluster_types.specs.declared.journal.Event.{Event as EventOf};
 ghost use Rattle.cluster_types.specs.declared.journal.Promotion.{Promotion as PromotionOf};
 ghost use Rattle.cluster_types.specs.declared.run.RunLine.{RunLine as LineOf};
 ghost use Rattle.cluster_types.specs.Runs.{RunStanding, RunsOn, Runs, IsCutRun, IsRunSoFar, IsStoppedRun, IsWholeRun};
-ghost use Rattle.run_safety.specs.Followed.{AreAnswersTold, IsFront};
+ghost use Rattle.run_safety.specs.TwoRuns.{AreAnswersTold, IsFront};
 
 /// A run goes a step further.
 pub fn runs_go_on()

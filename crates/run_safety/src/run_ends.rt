@@ -7,7 +7,7 @@ ghost use Rattle.cluster_types.specs.declared.journal.Event.{Event as EventOf};
 ghost use Rattle.cluster_types.specs.declared.journal.Promotion.{Promotion as PromotionOf};
 ghost use Rattle.cluster_types.specs.declared.run.RunLine.{RunLine as LineOf};
 ghost use Rattle.cluster_types.specs.Runs.{RunStanding, due, Runs, IsCutRun, IsWholeRun, journal_at};
-ghost use Rattle.run_safety.specs.Followed.{AreAnswersTold, IsFront};
+ghost use Rattle.run_safety.specs.TwoRuns.{AreAnswersTold, IsFront};
 
 /// An input has one whole run, where its answers are told and a journal has one plan.
 pub fn whole_runs_are_unique()

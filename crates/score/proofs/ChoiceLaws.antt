@@ -3,7 +3,8 @@ use Rattle.std.proofs.Common.{◌≡◌, ◌≢◌, ◌⊎◌, inl, inr, ℕ, �
 use Rattle.std.proofs.lemmas.Bool.{cases_lt}
 use Rattle.std.proofs.lemmas.Int.{ints}
 use Rattle.score.specs.declared.node_set.NodeSet.{NodeSet}
-use Rattle.score.specs.Choice.{points_at, GoesBefore, IsGreatestSoFar}
+use Rattle.score.specs.Choice.{points_at, GoesBefore}
+use Rattle.score.specs.Inner.Choice.{IsGreatestSoFar}
 use Rattle.score.specs.NodeSet.{has}
 
 -- a lane that reaches a floor

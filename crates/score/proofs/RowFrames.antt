@@ -5,7 +5,7 @@ use Rattle.std.proofs.lemmas.Int.{ints}
 use Rattle.std.proofs.lemmas.List.{with_items_is}
 use Rattle.score.specs.declared.row.Row.TheInside.{Inside}
 use Rattle.score.specs.Row.{Tally, IsSumInRange, finite_at}
-use Rattle.score.specs.Stored.{tallies, bias}
+use Rattle.score.specs.StoredRows.{tallies, bias}
 use Rattle.score.proofs.RowLaws.{row_nodes, row_finite}
 
 -- each field stores a number for each node

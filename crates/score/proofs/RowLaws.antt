@@ -7,8 +7,9 @@ use Rattle.std.proofs.lemmas.Int.{ints}
 use Rattle.std.proofs.lemmas.List.{length-map, length-set, get_or-map, get_or-set_same, get_or-set_other, get_or_past, ext_get_or}
 use Rattle.score.specs.Total.{sum_of, infinity, total_of}
 use Rattle.score.specs.Choice.{points_at}
-use Rattle.score.specs.Row.{Tally, score_tally_of, is_finite, finite_part, finite_at, tally_total, Stands, with_term, together}
-use Rattle.score.specs.Stored.{tallies, stored_tally, bias}
+use Rattle.score.specs.Row.{Tally, score_tally_of, is_finite, finite_part, finite_at, Stands, with_term, together}
+use Rattle.score.specs.Inner.Row.{tally_total}
+use Rattle.score.specs.StoredRows.{tallies, stored_tally, bias}
 use Rattle.score.proofs.StoredTotals.{tally_total_is}
 use Rattle.score.proofs.Tallies.{join, tally_is, tally_of-append, flag_or, length-tallies, get_or-tallies, length-together, get_or-together}
 

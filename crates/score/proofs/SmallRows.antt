@@ -5,7 +5,7 @@ use Rattle.std.proofs.lemmas.Int.{ints}
 use Rattle.std.proofs.lemmas.List.{get_or_past}
 use Rattle.score.specs.Total.{IsScore}
 use Rattle.score.specs.Row.{Tally, score_tally_of, finite_at, finite_part}
-use Rattle.score.specs.Small.{IsSmallRow}
+use Rattle.score.specs.Inner.SmallRows.{IsSmallRow}
 use Rattle.score.proofs.Tallies.{finite_part_least, finite_part_most}
 
 -- after one more term

@@ -3,8 +3,10 @@ use Rattle.std.proofs.Common.{◌≡◌, ℕ, ◌≤◌, pos, neg_ℤ, ◌-ℤ�
 use Rattle.std.proofs.lemmas.Int.{ints, clamps}
 use Rattle.std.specs.Ordering.{int_eq}
 use Rattle.score.specs.Total.{has_points, sum_of, cut, infinity, total_of}
-use Rattle.score.specs.Row.{score_tally_of, tally_total, is_finite}
-use Rattle.score.specs.Stored.{bias, stored_least, stored_most, stored_total, stored_tally}
+use Rattle.score.specs.Row.{score_tally_of, is_finite}
+use Rattle.score.specs.Inner.Row.{tally_total}
+use Rattle.score.specs.StoredRows.{bias, stored_tally}
+use Rattle.score.specs.Inner.StoredTotals.{stored_least, stored_most, stored_total}
 
 -- the choices of the lanes, one after the other
 pub stored_total_by : (minus plus sum at_most cut_sum with_plus total : ℕ)

@@ -9,7 +9,7 @@ use Rattle.std.proofs.lemmas.List.Folds.{list_any-append}
 use Rattle.std.proofs.lemmas.List.Elements.{filter-append}
 use Rattle.score.specs.Total.{IsScore, sum_of}
 use Rattle.score.specs.Row.{Tally, score_tally_of, is_finite, finite_part, together}
-use Rattle.score.specs.Stored.{tallies, stored_tally}
+use Rattle.score.specs.StoredRows.{tallies, stored_tally}
 
 -- the tally of two lists of terms, one after the other
 abbrev pub join : Tally → Tally → Tally

@@ -8,7 +8,8 @@ use Rattle.std.proofs.lemmas.List.{get_or-replicate, get_or_past, length-replica
 use Rattle.std.proofs.lemmas.Nat.{shl_whole, pow_pos, div_below, mod_below, div-add-mod'}
 use Rattle.std.proofs.lemmas.Int.{ints}
 use Rattle.std.proofs.Math.Bool.{or-false}
-use Rattle.score.specs.Choice.{SaysEnough, is_candidate_node}
+use Rattle.score.specs.Choice.{has_enough}
+use Rattle.score.specs.Inner.Choice.{SaysEnough}
 use Rattle.score.specs.NodeSet.{is_set}
 
 one_of : (x y : ℕ) → x < 2 → y < 2 → nat_eq (max x y) 1 ≡ (nat_eq x 1 || nat_eq y 1)
@@ -138,7 +139,7 @@ module _ (words : List ℕ) (node : ℕ) (long : length words ≡ 4) (within : n
 
 -- the word of more nodes, by the bits of so many further ones
 module _ (totals : List ℤ) (first at word bits count : ℕ) (from : first ≤ at) (room : at + count ≤ first + 64) (small : bits < 2 ^ count)
-    (each : (k : ℕ) → k < count → is_set bits k ≡ is_candidate_node totals (at + k)) (says : SaysEnough totals first at word) where
+    (each : (k : ℕ) → k < count → is_set bits k ≡ has_enough totals (at + k)) (says : SaysEnough totals first at word) where
   abbrev s : ℕ
   s = at - first
 
@@ -146,7 +147,7 @@ module _ (totals : List ℤ) (first at word bits count : ℕ) (from : first ≤ 
   moved = (bits * 2 ^ s) % 2 ^ 64
 
   abbrev good_at : ℕ → Bool
-  good_at k = is_candidate_node totals (first + k)
+  good_at k = has_enough totals (first + k)
 
   either : (k : ℕ) (x y z : Bool) → is_set word k ≡ x → is_set moved k ≡ y → (x || y) ≡ z → is_set (bit_or word moved) k ≡ z
   either k x y z p q r = set_in_either word moved k ∙ (ap (λ b. b || is_set moved k) p ∙ (ap (λ b. x || b) q ∙ r))
@@ -161,7 +162,7 @@ module _ (totals : List ℤ) (first at word bits count : ℕ) (from : first ≤ 
       go_on high (inl inside) =
           let same : at + (k - s) ≡ first + k = omega (arith, high) in
           either k false (good_at k) _ (beyond high)
-          (shifted_from bits count s small (omega arith) k high ∙ (each (k - s) (omega (arith, inside)) ∙ ap (is_candidate_node totals) same))
+          (shifted_from bits count s small (omega arith) k high ∙ (each (k - s) (omega (arith, inside)) ∙ ap (has_enough totals) same))
           (sym (ap (λ b. b && good_at k) (let t : nat_lt (first + k) (at + count) ≡ true = grind (arith, inside) in t)))
       go_on high (inr above) =
           either k false false _ (beyond high)
@@ -201,13 +202,13 @@ module _ (kept within : List ℕ) (totals : List ℤ) (place word : ℕ) (long :
   unasked false b c h = refl
   unasked true b c h = ap (λ x. x && c) (h refl)
 
-  pub this_word : (n : ℕ) → n / 64 ≡ place → is_set (get_or cut (n / 64) 0) (n % 64) ≡ (is_set (get_or within (n / 64) 0) (n % 64) && is_candidate_node totals n)
+  pub this_word : (n : ℕ) → n / 64 ≡ place → is_set (get_or cut (n / 64) 0) (n % 64) ≡ (is_set (get_or within (n / 64) 0) (n % 64) && has_enough totals n)
   this_word n same =
       let low = mod_below n 64 (omega arith) in
       let is : 64 * place + n % 64 ≡ n = omega (arith, same, div-add-mod' n 64) in
       ap (λ m. is_set (get_or cut m 0) (n % 64)) same
       ∙ ap (λ w. is_set w (n % 64)) (get_or-set_same kept place (bit_and (get_or within place 0) word) 0 (omega (arith, long, inside)))
       ∙ set_in_both (get_or within place 0) word (n % 64)
-      ∙ ap (λ b. is_set (get_or within place 0) (n % 64) && b) (says (n % 64) low ∙ ap (λ m. nat_lt m (length totals) && is_candidate_node totals m) is)
-      ∙ ap (λ m. is_set (get_or within m 0) (n % 64) && (nat_lt n (length totals) && is_candidate_node totals n)) (sym same)
+      ∙ ap (λ b. is_set (get_or within place 0) (n % 64) && b) (says (n % 64) low ∙ ap (λ m. nat_lt m (length totals) && has_enough totals m) is)
+      ∙ ap (λ m. is_set (get_or within m 0) (n % 64) && (nat_lt n (length totals) && has_enough totals n)) (sym same)
       ∙ unasked _ _ _ (λ e. let l = there n e in let t : nat_lt n (length totals) ≡ true = grind (arith, l) in t)

@@ -1,7 +1,7 @@
 -- The choice of nodes by their totals.
-use Rattle.std.specs.Prelude.{◌≡◌, ◌≢◌, ℕ, ◌+◌, ◌<◌, nat_lt, ◌&&◌, ℤ, pos, ◌<ℤ◌, ◌⊎◌, Bool, true, false, not, Option, MatchOption, List, slice_index, slice_index_or}
+use Rattle.std.specs.Prelude.{◌≡◌, ◌≢◌, ℕ, ◌<◌, ℤ, pos, ◌<ℤ◌, ◌⊎◌, Bool, true, not, List, slice_index, slice_index_or}
 use Rattle.std.specs.Int.{is_negative}
-use Rattle.score.specs.NodeSet.{has, is_set}
+use Rattle.score.specs.NodeSet.{has}
 use Rattle.score.specs.declared.node_set.NodeSet.{NodeSet}
 
 -- the points of a node's total
@@ -9,12 +9,8 @@ abbrev pub points_at : List ℤ → ℕ → ℤ
 points_at totals node = slice_index_or totals node (pos 0)
 
 -- the node's total is 0 or more
-abbrev pub is_candidate_node : List ℤ → ℕ → Bool
-is_candidate_node totals node = not (is_negative (points_at totals node))
-
--- a word of bits, for 64 nodes from the first on: those that are set are of nodes below the end, with a total of 0 or more
-abbrev pub SaysEnough : List ℤ → ℕ → ℕ → ℕ → Type 0
-SaysEnough totals first end word = (k : ℕ) → k < 64 → is_set word k ≡ (nat_lt (first + k) end && is_candidate_node totals (first + k))
+abbrev pub has_enough : List ℤ → ℕ → Bool
+has_enough totals node = not (is_negative (points_at totals node))
 
 -- the first node has the greater total, or as great a total and the smaller load, or both alike and the smaller number
 abbrev pub GoesBefore : List ℤ → List ℕ → ℕ → ℕ → Type 0
@@ -26,14 +22,3 @@ GoesBefore totals loads node other =
 pub record IsGreatest (totals : List ℤ) (loads : List ℕ) (among : NodeSet) (node : ℕ) : Type 0 where
   pub member : has among node ≡ true
   pub first : (other : ℕ) → has among other ≡ true → other ≢ node → GoesBefore totals loads node other
-
--- the same of the nodes below a bound
-pub record IsGreatestBelow (totals : List ℤ) (loads : List ℕ) (among : NodeSet) (bound node : ℕ) : Type 0 where
-  pub within : node < bound
-  pub member : has among node ≡ true
-  pub first : (other : ℕ) → other < bound → has among other ≡ true → other ≢ node → GoesBefore totals loads node other
-
--- the greatest of the nodes below a bound, if there is one
-abbrev pub IsGreatestSoFar : List ℤ → List ℕ → NodeSet → ℕ → Option ℕ → Type 0
-IsGreatestSoFar totals loads among bound best =
-    MatchOption best ((node : ℕ) → node < bound → has among node ≡ false) (IsGreatestBelow totals loads among bound)

@@ -1,7 +1,7 @@
+pub mod Inner
 pub mod Total
 pub mod ScoreText
 pub mod Choice
 pub mod NodeSet
 pub mod Row
-pub mod Small
-pub mod Stored
+pub mod StoredRows

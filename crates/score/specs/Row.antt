@@ -1,7 +1,7 @@
 -- Rows: of each node, what its total needs of its terms.
-use Rattle.std.specs.Prelude.{◌≡◌, ℕ, ℤ, pos, neg_ℤ, ◌≤ℤ◌, Bool, not, ◌||◌, if◌then◌else◌, List, [], ◌∷◌, ◌++◌, map, filter, slice_index_or, slice_set}
+use Rattle.std.specs.Prelude.{◌≡◌, ℕ, ℤ, pos, neg_ℤ, ◌≤ℤ◌, Bool, not, ◌||◌, if◌then◌else◌, List, ◌∷◌, ◌++◌, map, filter, slice_index_or, slice_set, []}
 use Rattle.std.specs.Ordering.{int_eq}
-use Rattle.score.specs.Total.{has_points, sum_of, cut, infinity}
+use Rattle.score.specs.Total.{has_points, sum_of, infinity}
 
 -- neither of the infinities
 abbrev pub is_finite : ℤ → Bool
@@ -43,7 +43,3 @@ finite_part term = if is_finite term then term else pos 0
 -- a finite sum that a row can hold: from -10^12 to 10^12
 abbrev pub IsSumInRange : ℤ → Type 0
 IsSumInRange sum = (neg_ℤ (pos 1000000000000) ≤ℤ sum) × (sum ≤ℤ pos 1000000000000)
-
--- the points of the total of what was tallied
-abbrev pub tally_total : Tally → ℤ
-tally_total tally = if tally.minus then neg_ℤ infinity else (if tally.plus then infinity else cut tally.finite)

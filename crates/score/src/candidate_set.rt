@@ -1,6 +1,7 @@
 ghost use Rattle.std.specs.Prelude.{◌≡◌, ℕ, ◌+◌, ◌<◌, ◌≤◌, ◌&&◌, length, true, not, if◌then◌else◌};
 ghost use Rattle.std.specs.Int.{is_negative};
-ghost use Rattle.score.specs.Choice.{SaysEnough, is_candidate_node};
+ghost use Rattle.score.specs.Choice.{has_enough};
+ghost use Rattle.score.specs.Inner.Choice.{SaysEnough};
 ghost use Rattle.score.specs.NodeSet.{has, is_set};
 
 use crate::form::Form;
@@ -65,7 +66,7 @@ fn word_of(totals: &[Score], first: usize, form: Form) -> u64
 /// The nodes of the set whose total is 0 or more.
 fn kept(totals: &[Score], within: &NodeSet, form: Form) -> NodeSet
     requires { (n : ℕ) → has within.now n ≡ true → n < length totals.now }
-    ensures { (n : ℕ) → has result n ≡ (has within.now n && is_candidate_node totals.now n) }
+    ensures { (n : ℕ) → has result n ≡ (has within.now n && has_enough totals.now n) }
 {
     let mut kept = NodeSet::none();
     for place in 0..4 {
@@ -77,7 +78,7 @@ fn kept(totals: &[Score], within: &NodeSet, form: Form) -> NodeSet
 /// The nodes of the set whose total is 0 or more, by lanes. It asks for a total of each node of the set.
 pub fn candidates(totals: &[Score], within: &NodeSet) -> NodeSet
     requires { (n : ℕ) → has within.now n ≡ true → n < length totals.now }
-    ensures { (n : ℕ) → has result n ≡ (has within.now n && is_candidate_node totals.now n) }
+    ensures { (n : ℕ) → has result n ≡ (has within.now n && has_enough totals.now n) }
 {
     kept(totals, within, Form::Lanes)
 }
@@ -85,7 +86,7 @@ pub fn candidates(totals: &[Score], within: &NodeSet) -> NodeSet
 /// The plain form of `candidates`: node by node alone.
 pub fn candidates_plain(totals: &[Score], within: &NodeSet) -> NodeSet
     requires { (n : ℕ) → has within.now n ≡ true → n < length totals.now }
-    ensures { (n : ℕ) → has result n ≡ (has within.now n && is_candidate_node totals.now n) }
+    ensures { (n : ℕ) → has result n ≡ (has within.now n && has_enough totals.now n) }
 {
     kept(totals, within, Form::Plain)
 }

@@ -1,6 +1,7 @@
 ghost use Rattle.std.specs.Prelude.{◌≡◌, ℕ, ◌+◌, ◌<◌, ◌≤◌, length, false, true, Option, IsTrue, IfSome, IfNone, MatchOption, neg_ℤ};
 ghost use Rattle.std.specs.Option.{ForSome};
-ghost use Rattle.score.specs.Choice.{points_at, GoesBefore, IsGreatest, IsGreatestSoFar};
+ghost use Rattle.score.specs.Choice.{points_at, GoesBefore, IsGreatest};
+ghost use Rattle.score.specs.Inner.Choice.{IsGreatestSoFar};
 ghost use Rattle.score.specs.Total.{infinity};
 ghost use Rattle.score.specs.NodeSet.{has};
 

@@ -24,7 +24,7 @@ pub struct Row {
 impl Model for Row {
     ghost use Rattle.std.specs.Prelude.{◌≡◌, List, vec_len};
     ghost use Rattle.score.specs.Row.{Tally};
-    ghost use Rattle.score.specs.Stored.{tallies};
+    ghost use Rattle.score.specs.StoredRows.{tallies};
 
     ghost Value = { List Tally };
 

@@ -1,7 +1,9 @@
 ghost use Rattle.std.specs.Prelude.{◌≡◌, ◌+◌, ◌<◌, ◌≤◌, ℕ, ◌-ℤ◌, pos, List, length, slice_index, map, if◌then◌else◌, nat_lt, ℤ};
 ghost use Rattle.score.specs.Choice.{points_at};
-ghost use Rattle.score.specs.Row.{Stands, tally_total};
-ghost use Rattle.score.specs.Stored.{stored_tally, stored_total, stored_least, stored_most, bias};
+ghost use Rattle.score.specs.Row.{Stands};
+ghost use Rattle.score.specs.Inner.Row.{tally_total};
+ghost use Rattle.score.specs.StoredRows.{stored_tally, bias};
+ghost use Rattle.score.specs.Inner.StoredTotals.{stored_total, stored_least, stored_most};
 ghost use Rattle.score.specs.Total.{total_of};
 
 use crate::form::Form;

@@ -2,7 +2,7 @@
 
 ghost use Rattle.std.specs.Prelude.{◌≡◌, ◌≢◌, ◌<◌, ◌+ℤ◌, ◌-ℤ◌, pos, ℕ, length, slice_index};
 ghost use Rattle.score.specs.Row.{IsSumInRange};
-ghost use Rattle.score.specs.Stored.{bias};
+ghost use Rattle.score.specs.StoredRows.{bias};
 
 use crate::addition::Addition;
 use std::simd::prelude::*;
@@ -15,7 +15,7 @@ pub(crate) struct Sums;
 
 impl Addition for Sums {
     ghost use Rattle.std.specs.Prelude.{◌+◌, ◌-◌, ◌≤◌, ◌<◌, ◌^◌};
-    ghost use Rattle.score.specs.Stored.{bias};
+    ghost use Rattle.score.specs.StoredRows.{bias};
 
     ghost fits = { λ ours theirs. (bias ≤ ours + theirs) × (ours + theirs < 2 ^ 64) };
 

@@ -22,7 +22,7 @@ use Rattle.sim_core.specs.declared.verdict.Clause.TheVariants as clause
 use Rattle.sim_core.specs.declared.verdict.Verdict.{Verdict}
 use Rattle.sim_core.specs.declared.verdict.Verdict.TheVariants.{Yes, No}
 use Rattle.sim_core.specs.Inner.Auditors.{PassesLines, HasSaidStop, audited_lines}
-use Rattle.sim_core.specs.Lawful.{IsWholeRunOfLines, Judges, answer_in, answers_of_lines, clause_of, line_number_at, other, said, undue}
+use Rattle.sim_core.specs.LawfulRuns.{IsWholeRunOfLines, Judges, answer_in, answers_of_lines, clause_of, line_number_at, other, said, undue}
 
 -- what stands behind some elements
 behind_at : {X : Type 0} (xs ys : List X) (y : X) → slice_get (xs ++ y ∷ ys) (length xs) ≡ Some y

@@ -6,17 +6,17 @@ use Rattle.crm_lex.specs.RawLines.{raw_lines}
 use Rattle.faults.specs.declared.fault.Fault.{Fault}
 use Rattle.faults.specs.declared.fault.Fault.TheVariants.{At}
 use Rattle.faults.specs.Reading.{UnlessMemory}
-use Rattle.live_run.specs.Followed.{bytes_of}
+use Rattle.live_run.specs.SourceFollowed.{bytes_of}
 use Rattle.live_run.specs.Heads as heads
-use Rattle.live_run.specs.Heads.{CanGoOn, IsStopOf, KeepsBytes, head_behind, progress, taken}
+use Rattle.live_run.specs.Heads.{CanGoOn, IsStopOf, KeepsBytes, head_behind, so_far, taken}
 use Rattle.live_run.specs.declared.head.HeadStop.{HeadStop}
 use Rattle.live_run.specs.declared.head.HeadStop.TheVariants as stop
 use Rattle.input_reading.specs.declared.input.cause.InputCause.{InputCause}
 use Rattle.input_reading.specs.declared.input.reading.Head.{Head}
-use Rattle.sim_core.specs.Live.{IsAmidHead}
+use Rattle.sim_core.specs.LiveAnswers.{IsAmidHead}
 use Rattle.sim_core.specs.Inner.LiveSteps.{IsBehind, StopsBy, fresh}
-use Rattle.input_reading.specs.Reading.{longest_line, most_bytes, start_of}
-use Rattle.sim_core.specs.Replay.{head_in, lacks_words, says_nothing}
+use Rattle.input_reading.specs.Reading.{longest_line, most_bytes, lone_head_of}
+use Rattle.sim_core.specs.Replay.{head_in, words_refused, head_refused}
 
 -- the head behind a reader that was just made is that of the input
 same_head : (old : Reading) (input : List ℕ) → old ≡ fresh → head_in input ≡ head_behind [] old input
@@ -24,8 +24,8 @@ same_head old input e = ap (λ (r : Reading). head_behind [] r input) (sym e)
 
 -- it was read to its end
 pub behind : (old new : Reading) (text : List ℕ) (next : ℕ) (before after : Option (List ℕ)) (head : Head) → old ≡ fresh
-    → IfSome before (λ left. head_behind [] old left ≡ taken text next new.room) → KeepsBytes (progress [] old) (progress text new) before after
-    → length new.held < 4096 → CanGoOn new × (next ≡ new.next) → start_of text ≡ Ok head → IfSome before (λ input. IsBehind input head new after)
+    → IfSome before (λ left. head_behind [] old left ≡ taken text next new.room) → KeepsBytes (so_far [] old) (so_far text new) before after
+    → length new.held < 4096 → CanGoOn new × (next ≡ new.next) → lone_head_of text ≡ Ok head → IfSome before (λ input. IsBehind input head new after)
 behind old new text next None after head e told keeps short place says = tt
 behind old new text next (Some input) None head e told keeps short place says = absurd cc
 behind old new text next (Some input) (Some unread) head e told keeps short place says = record {
@@ -43,10 +43,10 @@ behind old new text next (Some input) (Some unread) head e told keeps short plac
 
 -- it says nothing
 pub faulty : (old new : Reading) (text : List ℕ) (next : ℕ) (before after : Option (List ℕ)) (line : ℕ) (cause : InputCause) → old ≡ fresh
-    → IfSome before (λ left. head_behind [] old left ≡ taken text next new.room) → start_of text ≡ Err (At line cause)
+    → IfSome before (λ left. head_behind [] old left ≡ taken text next new.room) → lone_head_of text ≡ Err (At line cause)
     → IfSome before (λ input. StopsBy input after (stop.Refused line cause))
 faulty old new text next None after line cause e told says = tt
-faulty old new text next (Some input) after line cause e told says = says_nothing text next new.room line cause (same_head old input e ∙ told) says
+faulty old new text next (Some input) after line cause e told says = head_refused text next new.room line cause (same_head old input e ∙ told) says
 
 -- reading it stopped
 amid : (old new : Reading) (input : List ℕ) (after : Option (List ℕ)) → old ≡ fresh → heads.IsAmid old new (Some input) after
@@ -68,7 +68,7 @@ amid old new input (Some unread) e a = record {
         = subst (λ (r : Reading). Some (raw_lines (r.held ++ input)) ≡ Some (a.gone_on.taken.lines ++ raw_lines (new.held ++ unread))) e a.gone_on.taken.cut in
         cc;
   };
-  goes_on = subst (λ (r : Reading). heads.AllGoOnBehind r.longest r.room r.next a.gone_on.taken.lines) e a.gone_on.goes_on;
+  goes_on = subst (λ (r : Reading). heads.AllGoOnBehind r.room r.longest r.next a.gone_on.taken.lines) e a.gone_on.goes_on;
   no_answer = record {
     unfinished = a.none_whole;
     undecided = subst (λ (n : ℕ). IsUndecided n longest_line new.held) room (subst (λ (n : ℕ). IsUndecided new.room n new.held) size a.undecided);
@@ -88,7 +88,7 @@ amid old new input (Some unread) e a = record {
 pub stops : (old new : Reading) (before after : Option (List ℕ)) (found : HeadStop) → old ≡ fresh → IfSome before (λ left. IsStopOf (head_behind [] old left) found)
     → (found ≡ stop.ReadFault → heads.IsAmid old new before after) → IfSome before (λ input. StopsBy input after found)
 stops old new None after found e told broken = tt
-stops old new (Some input) after (stop.Refused line cause) e told broken = lacks_words line cause (same_head old input e ∙ told)
+stops old new (Some input) after (stop.Refused line cause) e told broken = words_refused line cause (same_head old input e ∙ told)
 stops old new (Some input) after stop.TooLarge e told broken = same_head old input e ∙ told
 stops old new (Some input) after stop.ReadFault e told broken = amid old new input after e (broken refl)
 stops old new (Some input) after stop.NoMemory e told broken = tt
@@ -96,6 +96,6 @@ stops old new (Some input) after stop.NoMemory e told broken = tt
 -- the same, by what reading it gave
 pub faulty_read : (old new : Reading) (text : List ℕ) (next : ℕ) (before after : Option (List ℕ)) (found : Fault InputCause) (line : ℕ) (cause : InputCause)
     → old ≡ fresh → IfSome before (λ left. head_behind [] old left ≡ taken text next new.room) → found ≡ At line cause
-    → UnlessMemory found (start_of text ≡ Err found) → IfSome before (λ input. StopsBy input after (stop.Refused line cause))
+    → UnlessMemory found (lone_head_of text ≡ Err found) → IfSome before (λ input. StopsBy input after (stop.Refused line cause))
 faulty_read old new text next before after found line cause e told is says =
-    faulty old new text next before after line cause e told (subst (λ (f : Fault InputCause). UnlessMemory f (start_of text ≡ Err f)) is says)
+    faulty old new text next before after line cause e told (subst (λ (f : Fault InputCause). UnlessMemory f (lone_head_of text ≡ Err f)) is says)

@@ -1,12 +1,12 @@
 -- The line of counts is a comment.
-use Rattle.std.proofs.Common.{arith, ◌≡◌, ℕ, ◌≤◌, nat_le, Bool, true, List, [], ◌∷◌, ◌++◌, length, codes, refl, length-append}
+use Rattle.std.proofs.Common.{arith, ◌≡◌, ℕ, ◌≤◌, nat_le, true, List, ◌++◌, length, codes, refl, length-append}
 use Rattle.std.specs.Fmt.{decimal}
 use Rattle.std.proofs.lemmas.Bool.Decides.{nat_tests}
 use Rattle.std.proofs.lemmas.Fmt.{length-decimal-le}
 use Rattle.std.proofs.lemmas.Str.{is_utf8-from_IsUtf8}
 use Rattle.crm_print.proofs.Clean.{Clean, clean-append, clean-ascii}
 use Rattle.crm_print.proofs.CleanNumbers.{decimal-clean}
-use Rattle.crm_print.specs.Again.{IsComment}
+use Rattle.crm_print.specs.PrintedAgain.{IsComment}
 
 -- the line of counts, without its line feed
 abbrev pub counts : ℕ → ℕ → ℕ → List ℕ

@@ -6,10 +6,10 @@ use Rattle.sim_core.specs.declared.status.Status.TheVariants.{Done, NoMemory, Us
 use Rattle.sim_core.specs.declared.words.Command.{Command}
 use Rattle.sim_core.specs.declared.words.Command.TheVariants.{Check, Scores, Why, Graph, Survive, Audit, Replay, Gen, World, Help, Version}
 use Rattle.sim_core.specs.Answers.{WordAnswers, InputHasRoom, IsCompleteAnswer, IsStatusDue, IsWritten, SaysBy, SaysOf, InputTaken, Written, told_input}
-use Rattle.sim_core.specs.Live.{SaysLive, HasWrittenReplay}
+use Rattle.sim_core.specs.LiveAnswers.{SaysLive, HasWrittenReplay}
 use Rattle.input_reading.specs.Reading.{most_bytes}
 use Rattle.sim_core.specs.Replay.{IsReplayOutput}
-use Rattle.sim_core.specs.Table.{Intake, nothing, whole, intake, Gets}
+use Rattle.sim_core.specs.Commands.{Intake, nothing, whole, intake, Gets}
 use Rattle.sim_core.proofs.OneAudit.{AreExcluded}
 use Rattle.sim_core.proofs.OneOutcome.{one_status}
 use Rattle.sim_core.proofs.OneReplay.{OneEnd}

@@ -11,7 +11,7 @@ use Rattle.run_safety.proofs.Beginnings.{begins_whole}
 use Rattle.run_safety.proofs.OneEnd.{whole_one, whole_or_cut}
 use Rattle.run_safety.proofs.PlansAreOne.{plans_one}
 use Rattle.sim_core.specs.declared.verdict.Clause.{Clause}
-use Rattle.sim_core.specs.Lawful.{IsCutRunOfLines, IsFaultyClause, IsLawfulRun, IsOther, IsUndue, IsWholeRunOfLines, answers_of_lines, other, undue}
+use Rattle.sim_core.specs.LawfulRuns.{IsCutRunOfLines, IsFaultyClause, IsLawfulRun, IsOther, IsUndue, IsWholeRunOfLines, answers_of_lines, other, undue}
 
 -- what stands at a place of the front of a list
 pub in_front : {X : Type 0} (xs more : List X) (i : ℕ) (x : X) → slice_get xs i ≡ Some x → slice_get (xs ++ more) i ≡ Some x

@@ -18,7 +18,7 @@ use Rattle.input_reading.specs.Sections.{sections_with_trace}
 use Rattle.input_reading.specs.Traces.{ReadsTrace, trace_of, with_run}
 use Rattle.input_reading.proofs.FewLines.{few_rows_read}
 use Rattle.input_reading.proofs.ValidInput.{passed}
-use Rattle.sim_core.specs.Lawful.{answer_in}
+use Rattle.sim_core.specs.LawfulRuns.{answer_in}
 use Rattle.sim_core.proofs.InputSteps.{in_steps}
 
 -- each line says one thing

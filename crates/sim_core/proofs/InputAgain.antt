@@ -1,5 +1,5 @@
 -- What comes of an input line by line, and what is read of it whole.
-use Rattle.std.proofs.Common.{arith, ◌≡◌, ◌≤◌, ◌+◌, ◌-◌, ℕ, true, false, List, [], ◌∷◌, ◌++◌, length, length-append, drop, codes, Result, Ok, Err, append_assoc, append-nil, refl, sym, ap, subst, ◌∙◌}
+use Rattle.std.proofs.Common.{arith, ◌≡◌, ◌≤◌, ◌+◌, ℕ, true, false, List, [], ◌∷◌, ◌++◌, length, length-append, drop, codes, Result, Ok, Err, append_assoc, append-nil, refl, sym, ap, subst, ◌∙◌}
 use Rattle.std.specs.Prelude.{Option, Some, None}
 use Rattle.std.specs.List.{list_any}
 use Rattle.std.proofs.Math.Seq.{drop-append_seam}
@@ -11,6 +11,7 @@ use Rattle.crm_lex.proofs.Pieces.{own_lines}
 use Rattle.crm_parse.specs.declared.fault.ParseCause.TheVariants.{UnknownStatement}
 use Rattle.crm_parse.specs.declared.marks.SectionMarks.{SectionMarks}
 use Rattle.crm_parse.specs.Marks.{marks_unless, misplaced, sections_of}
+use Rattle.crm_parse.proofs.PairWords.{place-behind}
 use Rattle.crm_parse.proofs.Unmarked.{all_placed}
 use Rattle.faults.specs.declared.fault.Fault.{Fault}
 use Rattle.faults.specs.declared.fault.Fault.TheVariants.{At}
@@ -21,23 +22,23 @@ use Rattle.input_reading.specs.declared.input.cause.InputCause.TheVariants as ca
 use Rattle.input_reading.specs.declared.input.reading.Head.{Head}
 use Rattle.input_reading.specs.declared.input.reading.Input.{Input}
 use Rattle.input_reading.specs.declared.results.result_lines.ResultLine.{ResultLine}
-use Rattle.input_reading.specs.Reading.{ReadsInput, input_of, most_bytes, nothing_yet, start_of, with_results}
+use Rattle.input_reading.specs.Reading.{ReadsInput, input_of, most_bytes, nothing_yet, lone_head_of, with_results}
 use Rattle.input_reading.specs.Results.{results_of}
 use Rattle.input_reading.proofs.ValidInput.{passed}
-use Rattle.live_run.specs.Coming.{Coming, coming}
+use Rattle.live_run.specs.AnswersToCome.{Coming, coming}
 use Rattle.live_run.specs.Heads as heads
 use Rattle.live_run.specs.declared.line_stop.LineCause.TheVariants as of_line
 use Rattle.live_run.specs.declared.line_stop.LineStop.{LineStop}
 use Rattle.live_run.specs.declared.line_stop.LineStop.TheVariants as stop
 use Rattle.live_run.proofs.ComingRead.{AreResults, SaysComing, SaysStop, coming_is}
 use Rattle.live_run.proofs.HeadRead.{EndsHead, HasHead, SaysHead, at_results, head_is, results_row, with_all}
-use Rattle.live_run.specs.Followed.{bytes_of}
+use Rattle.live_run.specs.SourceFollowed.{bytes_of}
 use Rattle.live_run.proofs.LinesJoined.{IsCut, are_read, both_none, cut_at, faults_joined, none_first, reads_as, rows_joined, text_bytes}
 use Rattle.sim_core.specs.LineByLine.{ComesLineByLine}
 use Rattle.sim_core.specs.Replay.{coming_behind, head_in}
 use Rattle.sim_core.proofs.InputSteps.{HasSections, configuration_in, has_sections, head_first, marks_by, status_in, steps_on, with_last, without_last, without_sections}
 use Rattle.sim_core.proofs.PlainResults.{plain_results}
-use Rattle.sim_core.proofs.TraceSections.{first_behind, first_nowhere, misplaced_joined, misplaced_parts, results_line}
+use Rattle.sim_core.proofs.TraceSections.{first_nowhere, misplaced_joined, misplaced_parts, results_line}
 
 abbrev last : List ℕ
 last = codes "%results"
@@ -66,9 +67,9 @@ in_place lines marks e = by (misplaced last [] lines) e
 module _ (bytes text : List ℕ) (rows others : List Line) (are : reads bytes ≡ Ok rows) (all : reads text ≡ Ok (rows ++ others)) where
   -- what is read of all is what is read of the head, and then of the lines behind it
   AsTogether : Type 0
-  AsTogether = input_of text ≡ (start_of bytes >>= (λ head. with_results head others))
+  AsTogether = input_of text ≡ (lone_head_of bytes >>= (λ head. with_results head others))
 
-  joined : (configuration status : List Line) → start_of bytes ≡ steps_on configuration status (λ head. Ok head) → input_of text ≡ steps_on configuration status (λ head. with_results head others) → AsTogether
+  joined : (configuration status : List Line) → lone_head_of bytes ≡ steps_on configuration status (λ head. Ok head) → input_of text ≡ steps_on configuration status (λ head. with_results head others) → AsTogether
   unfolding AsTogether
   joined configuration status start input =
       input ∙ (head_first configuration status (λ head. with_results head others) ∙ ap (λ (read : Result Head (Fault InputCause)). read >>= (λ head. with_results head others)) (sym start))
@@ -77,7 +78,7 @@ module _ (bytes text : List ℕ) (rows others : List Line) (are : reads bytes �
   there lines none = rw none refl
 
   to_the_end : list_any results_line rows ≡ false → others ≡ [] → misplaced last [] rows ≡ None → AsTogether
-  unfolding input_of start_of
+  unfolding input_of lone_head_of
   to_the_end none end placed =
       let nowhere = first_nowhere results_line rows none in
       let lines : rows ++ others ≡ rows = ap (λ (ls : List Line). rows ++ ls) end ∙ append-nil rows in
@@ -87,25 +88,25 @@ module _ (bytes text : List ℕ) (rows others : List Line) (are : reads bytes �
 
   to_results : (front : List Line) (mark : Line) → rows ≡ front ++ mark ∷ [] → list_any results_line front ≡ false → results_line mark ≡ true → misplaced last [] rows ≡ None
       → misplaced last [] (rows ++ others) ≡ None → AsTogether
-  unfolding input_of start_of
+  unfolding input_of lone_head_of
   to_results front mark ends none begins placed all_placed =
       let lines : rows ++ others ≡ front ++ mark ∷ others = ap (λ (ls : List Line). ls ++ others) ends ∙ append_assoc front (mark ∷ []) others in
       joined (configuration_in front) (status_in front)
       (with_last sections_of (λ all. nothing_yet) bytes last front mark [] (are ∙ ap Ok ends)
-      (there (front ++ mark ∷ []) (subst (λ (ls : List Line). misplaced last [] ls ≡ None) ends placed)) (first_behind results_line front mark [] none begins))
+      (there (front ++ mark ∷ []) (subst (λ (ls : List Line). misplaced last [] ls ≡ None) ends placed)) (place-behind results_line front mark [] none begins))
       (with_last sections_of (λ all. with_results) text last front mark others (all ∙ ap Ok lines)
-      (there (front ++ mark ∷ others) (subst (λ (ls : List Line). misplaced last [] ls ≡ None) lines all_placed)) (first_behind results_line front mark others none begins))
+      (there (front ++ mark ∷ others) (subst (λ (ls : List Line). misplaced last [] ls ≡ None) lines all_placed)) (place-behind results_line front mark others none begins))
 
   out_of_place : (line : ℕ) → misplaced last [] rows ≡ Some line → misplaced last [] (rows ++ others) ≡ Some line → AsTogether
-  unfolding AsTogether input_of start_of
+  unfolding AsTogether input_of lone_head_of
   out_of_place line head whole =
       let wrong : (lines : List Line) → misplaced last [] lines ≡ Some line → sections_of lines ≡ Err (At line UnknownStatement) = λ lines e. rw e refl in
       without_sections sections_of (λ all. with_results) text (rows ++ others) (At line UnknownStatement) all (wrong (rows ++ others) whole)
-      ∙ sym (bind-err (start_of bytes) (λ head. with_results head others) (At line (cause.Statements UnknownStatement))
+      ∙ sym (bind-err (lone_head_of bytes) (λ head. with_results head others) (At line (cause.Statements UnknownStatement))
       (without_sections sections_of (λ all. nothing_yet) bytes rows (At line UnknownStatement) are (wrong rows head)))
 
   pub together : (more : List (List (List ℕ))) → EndsHead rows more → (more ≡ [] → others ≡ []) → misplaced last [] (rows ++ others) ≡ misplaced last [] rows
-      → input_of text ≡ (start_of bytes >>= (λ head. with_results head others))
+      → input_of text ≡ (lone_head_of bytes >>= (λ head. with_results head others))
   unfolding AsTogether
   together more ends none same = by (misplaced last [] rows) refl ends
     where
@@ -159,7 +160,7 @@ module _ (text bytes : List ℕ) (next room : ℕ) (is : head_in text ≡ heads.
   read_all : faults_from next (raw_lines behind) ≡ [] → reads text ≡ Ok (rows ++ others)
   read_all clean = reads_as text (raw_lines text) refl (faults_are ∙ none_first (faults_from 1 h.first) (faults_from next (raw_lines behind)) h.clean clean) ∙ ap Ok rows_are
 
-  pub as_together : faults_from next (raw_lines behind) ≡ [] → misplaced last [] (rows ++ others) ≡ misplaced last [] rows → input_of text ≡ (start_of bytes >>= (λ head. with_results head others))
+  pub as_together : faults_from next (raw_lines behind) ≡ [] → misplaced last [] (rows ++ others) ≡ misplaced last [] rows → input_of text ≡ (lone_head_of bytes >>= (λ head. with_results head others))
   as_together clean =
       together bytes text rows others head_read (read_all clean) h.more h.ends (λ none. ap (rows_from next) (cut.rest ∙ none))
 
@@ -177,13 +178,13 @@ module _ (text bytes : List ℕ) (next room : ℕ) (is : head_in text ≡ heads.
       (let same : moment_of head.journal.events ≡ moment_of head.journal.events + 0 = omega arith in same) refl)
 
   -- it is read, and behind it no line is refused or goes past the limit
-  module _ (head : Head) (says : start_of bytes ≡ Ok head) (none : (coming_behind text bytes head next room).stop ≡ None) where
+  module _ (head : Head) (says : lone_head_of bytes ≡ Ok head) (none : (coming_behind text bytes head next room).stop ≡ None) where
     answers : AreResults head.cluster (moment_of head.journal.events) next [] room (raw_lines behind) (coming_behind text bytes head next room).results
     answers =
         subst (SaysStop head.cluster (moment_of head.journal.events) next [] room (raw_lines behind) (coming_behind text bytes head next room).results) none (come_says head)
 
     placed : misplaced last [] rows ≡ None
-    unfolding start_of
+    unfolding lone_head_of
     placed =
         let found = has_sections sections_of (λ all. nothing_yet) bytes head says in
         in_place rows found.marks (subst (λ (ls : List Line). sections_of ls ≡ Ok found.marks) (same_ok found.lines rows (sym found.are ∙ head_read)) found.placed)
@@ -227,7 +228,7 @@ module _ (text : List ℕ) (whole : Input) (r : ReadsInput text whole) (fits : l
     placed_all : misplaced last [] (rows text bytes next room is ++ others text bytes next room is) ≡ None
     placed_all = subst (λ (ls : List Line). misplaced last [] ls ≡ None) read_lines (in_place all.lines all.marks all.placed)
 
-    begins : (start_of bytes >>= (λ head. with_results head (others text bytes next room is))) ≡ Ok whole
+    begins : (lone_head_of bytes >>= (λ head. with_results head (others text bytes next room is))) ≡ Ok whole
     begins =
         let front = (misplaced_parts last [] (rows text bytes next room is) (others text bytes next room is) placed_all).0 in
         sym (as_together text bytes next room is clean_behind (placed_all ∙ sym front)) ∙ r
@@ -256,7 +257,7 @@ module _ (text : List ℕ) (whole : Input) (r : ReadsInput text whole) (fits : l
 
     line_by_line : ComesLineByLine text whole
     line_by_line =
-        let (head, says, read) = bind-ok (start_of bytes) (λ head. with_results head (others text bytes next room is)) whole begins in
+        let (head, says, read) = bind-ok (lone_head_of bytes) (λ head. with_results head (others text bytes next room is)) whole begins in
         let found = results_read head (others text bytes next room is) whole read in
         let same : head ≡ whole.head = sym found.0 in
         record {
@@ -270,7 +271,7 @@ module _ (text : List ℕ) (whole : Input) (r : ReadsInput text whole) (fits : l
   pub comes : ComesLineByLine text whole
   comes = by (head_in text) refl (head_is [] most_bytes 1 (raw_lines text) (own_lines text))
     where
-      by : (verdict : heads.HeadVerdict) → head_in text ≡ verdict → SaysHead [] most_bytes 1 (raw_lines text) verdict → ComesLineByLine text whole
+      by : (verdict : heads.HeadFound) → head_in text ≡ verdict → SaysHead [] most_bytes 1 (raw_lines text) verdict → ComesLineByLine text whole
       by (heads.taken bytes next room) is says = line_by_line bytes next room is
       by (heads.refused line why) is fault = absurd (let f : None ≡ Some (At line fault.lack) = ap first_lex_fault (sym clean) ∙ fault.first in let no : ⊥ = cc in no)
       by heads.too_large is over = let bytes_size = ap (λ (bs : List ℕ). length bs) (text_bytes text) in absurd (omega (arith, over, bytes_size, fits))

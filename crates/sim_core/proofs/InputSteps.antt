@@ -6,7 +6,6 @@ use Rattle.std.proofs.lemmas.List.{take-append-le}
 use Rattle.cluster_model.specs.declared.expansion.leaves.Leaves.{Leaves}
 use Rattle.cluster_model.specs.Expansion.{expansion_of}
 use Rattle.cluster_model.specs.Resolution.{resolution_of}
-use Rattle.cluster_types.specs.declared.cluster.Cluster.{Cluster}
 use Rattle.crm_lex.specs.declared.line.Line.{Line}
 use Rattle.crm_lex.specs.Reading.{reads}
 use Rattle.crm_parse.specs.declared.fault.ParseCause.{ParseCause}
@@ -21,8 +20,9 @@ use Rattle.input_reading.specs.declared.input.cause.InputCause.TheVariants as ca
 use Rattle.input_reading.specs.declared.input.reading.Head.{Head}
 use Rattle.input_reading.specs.FirstJournal.{status_journal}
 use Rattle.input_reading.specs.Reading.{configuration_lines, configuration_of, following_lines, head_of, reading_steps, status_lines}
+use Rattle.input_reading.proofs.Marks.{position_within}
 use Rattle.input_reading.proofs.ValidInput.{passed, passed_on}
-use Rattle.sim_core.proofs.TraceSections.{first_in_front, first_within, nothing_past, range_behind, range_in_front, status_line}
+use Rattle.sim_core.proofs.TraceSections.{first_in_front, nothing_past, range_behind, range_in_front, status_line}
 
 -- what is read of the lines of a configuration and of a status, and then on with the head
 abbrev pub steps_on : {X : Type 0} → List Line → List Line → (Head → Result X (Fault InputCause)) → Result X (Fault InputCause)
@@ -153,7 +153,7 @@ module _ {X : Type 0} (sections : List Line → Result SectionMarks (Fault Parse
       let status : status_at word (rows ++ more) ≡ position_or_len status_line rows
       = ap (λ (n : ℕ). min (position_or_len status_line (rows ++ more)) n) last ∙ first_in_front status_line rows more in
       let front : take (status_at word (rows ++ more)) (rows ++ more) ≡ configuration_in rows
-      = ap (λ (n : ℕ). take n (rows ++ more)) status ∙ take-append-le (position_or_len status_line rows) rows more (first_within status_line rows) in
+      = ap (λ (n : ℕ). take n (rows ++ more)) status ∙ take-append-le (position_or_len status_line rows) rows more (position_within status_line rows) in
       let between : slice_range (rows ++ more) (status_at word (rows ++ more) + 1) (last_at word (rows ++ more)) ≡ status_in rows
       = ap (λ (n : ℕ). slice_range (rows ++ more) (n + 1) (last_at word (rows ++ more))) status
       ∙ (ap (λ (n : ℕ). slice_range (rows ++ more) (position_or_len status_line rows + 1) n) last ∙ range_in_front (position_or_len status_line rows + 1) rows more) in

@@ -6,25 +6,25 @@ use Rattle.cluster_io.proofs.Bearing.{Bears-as, Bears-then}
 use Rattle.cluster_io.specs.Streams.{Bears}
 use Rattle.cluster_types.specs.declared.cluster.Cluster.{Cluster}
 use Rattle.cluster_types.specs.declared.journal.Journal.{Journal}
-use Rattle.live_run.specs.Coming.{Coming}
+use Rattle.live_run.specs.AnswersToCome.{Coming}
 use Rattle.live_run.specs.declared.head.HeadStop.{HeadStop}
 use Rattle.live_run.specs.declared.head.HeadStop.TheVariants as stop
 use Rattle.live_run.specs.declared.live_end.LiveEnd.{LiveEnd}
 use Rattle.live_run.specs.declared.live_end.LiveEnd.TheVariants as end
 use Rattle.live_run.specs.Ends.{EndGets}
-use Rattle.live_run.specs.Reached as run
-use Rattle.live_run.specs.Reached.{Reaches, results_behind}
+use Rattle.live_run.specs.RunReached as run
+use Rattle.live_run.specs.RunReached.{Reaches, results_behind}
 use Rattle.live_run.specs.Inner.Fronts.{adds_none}
 use Rattle.input_reading.specs.declared.input.cause.InputCause.{InputCause}
 use Rattle.input_reading.specs.declared.input.reading.Head.{Head}
 use Rattle.sim_core.specs.declared.status.Status.{Status}
 use Rattle.sim_core.specs.declared.status.Status.TheVariants.{Done, NoMemory, Usage, ReadFault, WriteFault, Refused, Unexpected, TooLarge, NotLawful}
 use Rattle.sim_core.specs.Answers.{MayAnswer}
-use Rattle.sim_core.specs.Live.{IsBehindHead, SaysLive, amid_head, behind_head, of_head, of_run, at_first, between_two}
+use Rattle.sim_core.specs.LiveAnswers.{IsBehindHead, SaysLive, amid_head, behind_head, of_head, of_run, at_first, between_two}
 use Rattle.sim_core.specs.Inner.LiveSteps.{IsBehind, StopsBy, WritesFault, status_of}
 use Rattle.input_reading.specs.Causes.{refusal_text}
 use Rattle.sim_core.specs.Replay.{IsHeadFault, IsReplayOutput, IsTextOfRun, coming_behind}
-use Rattle.sim_core.specs.Table.{live}
+use Rattle.sim_core.specs.Commands.{live}
 use Rattle.sim_core.proofs.SameComing.{same_coming}
 
 -- the head has a fault

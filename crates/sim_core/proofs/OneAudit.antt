@@ -6,7 +6,7 @@ use Rattle.cluster_types.specs.declared.run.RunLine.{RunLine}
 use Rattle.input_reading.specs.declared.input.trace.Trace.{Trace}
 use Rattle.input_reading.proofs.OneReading.{not_both_of_a_trace, one_trace}
 use Rattle.sim_core.specs.declared.verdict.Clause.{Clause}
-use Rattle.sim_core.specs.Lawful.{IsFaultyClause, IsLawfulRun, said}
+use Rattle.sim_core.specs.LawfulRuns.{IsFaultyClause, IsLawfulRun, said}
 use Rattle.sim_core.specs.declared.status.Status.{Status}
 use Rattle.sim_core.specs.declared.status.Status.TheVariants.{Done, NotLawful, Refused}
 use Rattle.sim_core.specs.Audit.{IsAuditOutput, IsLawfulTrace, IsTraceRefusal, IsUnlawfulTrace}

@@ -9,13 +9,13 @@ use Rattle.cluster_types.specs.declared.journal.Answer.{Answer}
 use Rattle.cluster_types.specs.declared.journal.Journal.{Journal}
 use Rattle.cluster_types.specs.declared.run.RunLine.{RunLine}
 use Rattle.cluster_types.specs.Runs.{due}
-use Rattle.run_safety.specs.Followed.{AreOnOneWay, IsFront, other_first, this_first}
+use Rattle.run_safety.specs.TwoRuns.{AreOnOneWay, IsFront, other_first, this_first}
 use Rattle.run_safety.proofs.Beginnings.{begins_cut, begins_whole}
 use Rattle.run_safety.proofs.OneEnd.{cut_one, whole_one, whole_or_cut}
 use Rattle.run_safety.proofs.OneRun.{one_way}
 use Rattle.run_safety.proofs.PlansAreOne.{plans_one}
 use Rattle.sim_core.specs.declared.verdict.Clause.{Clause}
-use Rattle.sim_core.specs.Lawful.{IsCutRunOfLines, IsFaultyClause, IsOther, IsSoFar, IsUndue, IsWholeRunOfLines, answers_of_lines, clause_of, other, undue}
+use Rattle.sim_core.specs.LawfulRuns.{IsCutRunOfLines, IsFaultyClause, IsOther, IsPrintedSoFar, IsUndue, IsWholeRunOfLines, answers_of_lines, clause_of, other, undue}
 use Rattle.sim_core.proofs.Exclusive.{in_front}
 
 -- what stands before a place at which something stands
@@ -41,7 +41,7 @@ from_front n i xs x e = subst (λ ys. slice_get ys i ≡ Some x) (take-append-dr
 
 module _ (c : Cluster) (journal : Journal) (lines : List RunLine) where
   -- two runs of these answers print the same at a place that both reach
-  one_line : (some more : List RunLine) → IsSoFar c journal lines some → IsSoFar c journal lines more → (place : ℕ) (a b : RunLine)
+  one_line : (some more : List RunLine) → IsPrintedSoFar c journal lines some → IsPrintedSoFar c journal lines more → (place : ℕ) (a b : RunLine)
       → slice_get some place ≡ Some a → slice_get more place ≡ Some b → a ≡ b
   one_line some more p q place a b e f =
       by (one_way c journal.promotions true (plans_one c journal.promotions) (due 1 journal.events) p.at q.at (Some (answers_of_lines lines)) p.behind q.behind some more tt p.runs q.runs)
@@ -71,7 +71,7 @@ module _ (c : Cluster) (journal : Journal) (lines : List RunLine) where
       o.kind_is ∙ ap clause_of same ∙ sym p.kind_is
 
   -- where the lines are undue from a place on, the run prints no other line than they have
-  front_of : (place : ℕ) (printed : List RunLine) → IsSoFar c journal lines printed → (u : IsUndue c journal lines place) → IsFront printed u.printed
+  front_of : (place : ℕ) (printed : List RunLine) → IsPrintedSoFar c journal lines printed → (u : IsUndue c journal lines place) → IsFront printed u.printed
   front_of place printed p u = by u.ends where
     by : (IsWholeRunOfLines c journal lines u.printed u.left × (place < length lines)) ⊎ ((given : Answer) × (behind : Option (List Answer)) × IsCutRunOfLines c journal lines u.printed u.left given behind)
         → IsFront printed u.printed

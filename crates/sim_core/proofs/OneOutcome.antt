@@ -7,12 +7,12 @@ use Rattle.sim_core.specs.declared.status.Status.TheVariants.{Done, Refused}
 use Rattle.sim_core.specs.declared.words.Command.{Command}
 use Rattle.sim_core.specs.declared.words.Command.TheVariants.{Check, Scores, Why, Graph, Survive, Audit, Replay, Gen, World, Help, Version}
 use Rattle.sim_core.specs.Check.{IsCheckText}
-use Rattle.sim_core.specs.Generated.{IsSummaryText}
+use Rattle.sim_core.specs.GenSummary.{IsSummaryText}
 use Rattle.sim_core.specs.Graph.{IsGraphText}
 use Rattle.sim_core.specs.Outputs.{IsOutput, IsRefusalText, IsTextOf}
 use Rattle.sim_core.specs.Scores.{IsScoresText}
 use Rattle.sim_core.specs.Survive.{IsSurviveText}
-use Rattle.sim_core.specs.Table.{Gets}
+use Rattle.sim_core.specs.Commands.{Gets}
 use Rattle.sim_core.specs.Why.{IsWhyOf}
 use Rattle.sim_core.specs.World.{IsWorldOf}
 use Rattle.input_reading.proofs.OneReading.{not_both}

@@ -1,9 +1,9 @@
 -- An input gets one status with the word `replay`.
-use Rattle.std.proofs.Common.{◌≡◌, ◌⊎◌, inl, inr, ℕ, List, Ok, Err, refl, sym, ◌∙◌, ap, subst}
+use Rattle.std.proofs.Common.{◌≡◌, inl, inr, ℕ, List, Ok, Err, refl, sym, ◌∙◌, ap, subst}
 use Rattle.cluster_types.specs.declared.cluster.Cluster.{Cluster}
 use Rattle.cluster_types.specs.declared.journal.Journal.{Journal}
 use Rattle.faults.specs.declared.fault.Fault.TheVariants.{At}
-use Rattle.live_run.specs.Coming.{Coming}
+use Rattle.live_run.specs.AnswersToCome.{Coming}
 use Rattle.live_run.specs.Heads as heads
 use Rattle.live_run.specs.declared.live_end.LiveEnd.{LiveEnd}
 use Rattle.live_run.specs.declared.live_end.LiveEnd.TheVariants as end
@@ -12,8 +12,8 @@ use Rattle.input_reading.specs.declared.input.cause.InputCause.{InputCause}
 use Rattle.input_reading.specs.declared.input.reading.Head.{Head}
 use Rattle.sim_core.specs.declared.status.Status.{Status}
 use Rattle.sim_core.specs.declared.status.Status.TheVariants.{Done, Refused, TooLarge, Unexpected}
-use Rattle.input_reading.specs.Reading.{start_of}
-use Rattle.sim_core.specs.Replay.{IsBegun, IsHeadFault, IsHeadRefusal, IsHeadTooLarge, IsReplayOutput, IsTextOfRun, coming_behind, head_in, lacks_words, says_nothing}
+use Rattle.input_reading.specs.Reading.{lone_head_of}
+use Rattle.sim_core.specs.Replay.{IsHeadRead, IsHeadFault, IsHeadRefusal, IsHeadTooLarge, IsReplayOutput, IsTextOfRun, coming_behind, head_in, words_refused, head_refused}
 
 -- a run gets one end
 abbrev pub OneEnd : Type 0
@@ -29,12 +29,12 @@ module _ (input : List ℕ) where
     pub next_same : next ≡ n
     pub room_same : room ≡ r
 
-  pub same_head : (bytes other : List ℕ) (head also : Head) (next n room r : ℕ) → IsBegun input bytes head next room → IsBegun input other also n r
+  pub same_head : (bytes other : List ℕ) (head also : Head) (next n room r : ℕ) → IsHeadRead input bytes head next room → IsHeadRead input other also n r
       → IsSame bytes other head also next n room r
   same_head bytes other head also next n room r one two =
       let taken : heads.taken bytes next room ≡ heads.taken other n r = sym one.is ∙ two.is in
       let same : bytes ≡ other = cc in
-      let said : Ok head ≡ Ok also = sym one.says ∙ (ap start_of same ∙ two.says) in
+      let said : Ok head ≡ Ok also = sym one.says ∙ (ap lone_head_of same ∙ two.says) in
       record { bytes_same = same; head_same = cc; next_same = cc; room_same = cc }
 
   -- what is said of the one is said of the other
@@ -47,23 +47,23 @@ module _ (input : List ℕ) where
       (subst (λ (q : ℕ). P head.cluster head.journal (coming_behind input bytes head next q)) same.room_same p)))
 
   -- a head that is read has no fault
-  pub no_fault : (bytes : List ℕ) (head : Head) (next room line : ℕ) (why : InputCause) → IsBegun input bytes head next room → ¬ IsHeadFault input line why
-  no_fault bytes head next room line why begun (lacks_words n cause is) =
+  pub no_fault : (bytes : List ℕ) (head : Head) (next room line : ℕ) (why : InputCause) → IsHeadRead input bytes head next room → ¬ IsHeadFault input line why
+  no_fault bytes head next room line why begun (words_refused n cause is) =
       let same : heads.taken bytes next room ≡ heads.refused n cause = sym begun.is ∙ is in absurd cc
-  no_fault bytes head next room line why begun (says_nothing other n r m cause is says) =
+  no_fault bytes head next room line why begun (head_refused other n r m cause is says) =
       let taken : heads.taken bytes next room ≡ heads.taken other n r = sym begun.is ∙ is in
       let same : bytes ≡ other = cc in
-      let said : Ok head ≡ Err (At m cause) = sym begun.says ∙ (ap start_of same ∙ says) in
+      let said : Ok head ≡ Err (At m cause) = sym begun.says ∙ (ap lone_head_of same ∙ says) in
       absurd cc
 
   -- nor does a line of it go past the limit
-  pub not_too_large : (bytes : List ℕ) (head : Head) (next room : ℕ) → IsBegun input bytes head next room → ¬ (head_in input ≡ heads.too_large)
+  pub not_too_large : (bytes : List ℕ) (head : Head) (next room : ℕ) → IsHeadRead input bytes head next room → ¬ (head_in input ≡ heads.too_large)
   not_too_large bytes head next room begun is = let same : heads.taken bytes next room ≡ heads.too_large = sym begun.is ∙ is in absurd cc
 
   pub faulty_not_too_large : (line : ℕ) (why : InputCause) → IsHeadFault input line why → ¬ (head_in input ≡ heads.too_large)
-  faulty_not_too_large line why (lacks_words n cause is) large =
+  faulty_not_too_large line why (words_refused n cause is) large =
       let same : heads.refused n cause ≡ heads.too_large = sym is ∙ large in absurd cc
-  faulty_not_too_large line why (says_nothing other n r m cause is says) large =
+  faulty_not_too_large line why (head_refused other n r m cause is says) large =
       let same : heads.taken other n r ≡ heads.too_large = sym is ∙ large in absurd cc
 
 module _ (one_end : OneEnd) (input : List ℕ) where

@@ -9,11 +9,11 @@ use Rattle.cluster_types.specs.declared.journal.Promotion.{Promotion}
 use Rattle.cluster_types.specs.declared.run.Passed.{Passed}
 use Rattle.cluster_types.specs.declared.run.Run.{Run}
 use Rattle.cluster_types.specs.Texts.{PassedFits, run_lines}
-use Rattle.graph_exec.specs.Kept.{IsPassedOfPlan}
+use Rattle.graph_exec.specs.KeptRuns.{IsPassedOfPlan}
 use Rattle.input_reading.specs.declared.input.reading.Input.{Input}
 use Rattle.run_safety.proofs.OneEnd.{cut_one, whole_one, whole_or_cut}
 use Rattle.run_safety.proofs.PlansAreOne.{plans_one}
-use Rattle.sim_core.specs.Generated.{IsRunOf, IsSummaryText, answers_of, cut, to_its_end}
+use Rattle.sim_core.specs.GenSummary.{IsRunOf, IsSummaryText, answers_of, cut, to_its_end}
 use Rattle.sim_core.specs.Summary.{case_lines, count_line, is_begin, is_good_end, last_targets}
 use Rattle.sim_core.proofs.Tallied.{Tally, cells_at_last, tally, tally_all}
 

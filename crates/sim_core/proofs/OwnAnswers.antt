@@ -1,10 +1,9 @@
 -- A run is that of the answers which its own lines tell. An end that nobody reported prints the line of the answer that it stands for.
-use Rattle.std.proofs.Common.{◌≡◌, ℕ, Bool, true, List, [], ◌∷◌, ◌++◌, filter, append-nil, append_assoc, refl, sym, ap, subst, ◌∙◌}
-use Rattle.std.specs.Prelude.{Option, Some, None}
-use Rattle.std.specs.List.{flat_map, list_any}
+use Rattle.std.proofs.Common.{◌≡◌, Bool, true, List, [], ◌∷◌, ◌++◌, filter, append-nil, append_assoc, refl, sym, ap, subst, ◌∙◌}
+use Rattle.std.specs.Prelude.{Option, Some}
+use Rattle.std.specs.List.{flat_map}
 use Rattle.std.proofs.lemmas.Grind.{flat_map-append}
 use Rattle.cluster_types.specs.declared.cluster.Cluster.{Cluster}
-use Rattle.cluster_types.specs.declared.journal.Action.{Action}
 use Rattle.cluster_types.specs.declared.journal.Answer.{Answer}
 use Rattle.cluster_types.specs.declared.journal.Answer.TheVariants as answer
 use Rattle.cluster_types.specs.declared.journal.Event.{Event}
@@ -12,18 +11,18 @@ use Rattle.cluster_types.specs.declared.journal.Journal.{Journal}
 use Rattle.cluster_types.specs.declared.journal.Promotion.{Promotion}
 use Rattle.cluster_types.specs.declared.run.RunLine.{RunLine}
 use Rattle.cluster_types.specs.declared.run.RunLine.TheVariants as line
-use Rattle.cluster_types.specs.Answering.{is_number_of}
+use Rattle.cluster_types.specs.AnswersThatApply.{is_number_of}
 use Rattle.cluster_types.specs.Plans.{transition_of}
 use Rattle.cluster_types.specs.Runs.{RunStanding, due, amid, idle, RunsOn, plans, goes, completes, aborts, answers, Runs, here, one_more, IsOver, IsWholeRun}
 use Rattle.cluster_types.specs.Sources.{told, used_up}
-use Rattle.cluster_types.specs.Steps.{Transition, StepsOn, begins, takes, is_silent, TakesAnswer, answer_events, in_flight_by_number, silent_code}
+use Rattle.cluster_types.specs.Steps.{Transition, StepsOn, begins, takes, is_silent, TakesAnswer, answer_events, silent_code}
 use Rattle.cluster_types.specs.Texts.{event_lines}
-use Rattle.graph_exec.specs.Telling.{plan_lines}
+use Rattle.graph_exec.specs.WatcherLines.{plan_lines}
 use Rattle.lemmas.proofs.Booleans.{number_itself}
 use Rattle.run_safety.proofs.InFlight.{among_flying}
 use Rattle.run_safety.proofs.Printed.{answer_line}
 use Rattle.sim_core.specs.Inner.Auditors.{is_event_line}
-use Rattle.sim_core.specs.Lawful.{IsLawfulRun, answer_in, answers_of_lines}
+use Rattle.sim_core.specs.LawfulRuns.{IsLawfulRun, answer_in, answers_of_lines}
 use Rattle.sim_core.proofs.Shows.{none_of_plan}
 
 -- lines none of which is of an event tell no answer

@@ -13,7 +13,7 @@ use Rattle.input_reading.specs.declared.history_fault.ResultCause.TheVariants as
 use Rattle.input_reading.specs.declared.results.result_lines.ResultLine.{ResultLine}
 use Rattle.input_reading.specs.declared.words.word_cause.WordCause.{WordCause}
 use Rattle.input_reading.specs.declared.words.word_cause.WordCause.TheVariants.{UnknownStatement}
-use Rattle.input_reading.specs.Places.{WordsOfLine}
+use Rattle.input_reading.specs.WordPlaces.{WordsOfLine}
 use Rattle.input_reading.specs.Results.{answer_of, moment_after, result_of, result_word, with_result, with_result_lines}
 
 -- no result line begins with a percent sign
@@ -21,23 +21,25 @@ no_result : (c : Cluster) (moment : ℕ) (bs : List ℕ) (ws : WordsOfLine) → 
 unfolding answer_of result_word
 no_result c moment bs ws = refl
 
-plain_answer : (c : Cluster) (moment : ℕ) (words : WordsOfLine) (given : Answer) → answer_of c moment words ≡ Ok given → has_percent (first_word words) ≡ false
-plain_answer c moment [] given e = refl
-plain_answer c moment ([] ∷ ws) given e = refl
-plain_answer c moment ((b ∷ bs) ∷ ws) given e = by (b == 37) refl
+-- what isn't read of words that begin with a percent sign is read of others alone
+pub plain_read : {A : Type 0} (read : WordsOfLine → Result A WordCause) → ((bs : List ℕ) (ws : WordsOfLine) → read ((37 ∷ bs) ∷ ws) ≡ Err UnknownStatement) → (words : WordsOfLine) (given : A)
+    → read words ≡ Ok given → has_percent (first_word words) ≡ false
+plain_read read none [] given e = refl
+plain_read read none ([] ∷ ws) given e = refl
+plain_read read none ((b ∷ bs) ∷ ws) given e = by (b == 37) refl
   where
     by : (t : Bool) → (b == 37) ≡ t → t ≡ false
     by false at = refl
     by true at =
         let same : b ≡ 37 = grind arith in
-        let none = subst (λ x. answer_of c moment ((x ∷ bs) ∷ ws) ≡ Err UnknownStatement) (sym same) (no_result c moment bs ws) in
+        let wrong = subst (λ x. read ((x ∷ bs) ∷ ws) ≡ Err UnknownStatement) (sym same) (none bs ws) in
         cc
 
 plain_result : (c : Cluster) (moment before line : ℕ) (words : WordsOfLine) (given : Answer) → result_of c moment before line words ≡ Ok given → has_percent (first_word words) ≡ false
 plain_result c moment before line words given e = by (nat_lt before 10000) e
   where
     of : (read : Result Answer WordCause) → answer_of c moment words ≡ read → faulting of_result.Form (on_line line read) ≡ Ok given → has_percent (first_word words) ≡ false
-    of (Ok answer) is e = plain_answer c moment words answer is
+    of (Ok answer) is e = plain_read (answer_of c moment) (no_result c moment) words answer is
     of (Err why) is e = absurd (let f : ⊥ = cc in f)
 
     by : (b : Bool) → (if b then faulting of_result.Form (on_line line (answer_of c moment words)) else Err (At line of_result.TooManyResults)) ≡ Ok given → has_percent (first_word words) ≡ false

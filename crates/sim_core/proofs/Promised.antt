@@ -19,12 +19,12 @@ use Rattle.input_reading.specs.Causes.{refusal_text}
 use Rattle.live_run.proofs.Dues.{begins_due, one_end}
 use Rattle.live_run.proofs.NoFault.{coming_no_fault}
 use Rattle.live_run.specs.Inner.Fronts.{front_prefix, whole_prefix}
-use Rattle.live_run.specs.Coming.{Coming}
+use Rattle.live_run.specs.AnswersToCome.{Coming}
 use Rattle.live_run.specs.Courses.{answers_to_come}
 use Rattle.live_run.specs.declared.live_end.LiveEnd.{LiveEnd}
 use Rattle.live_run.specs.declared.live_end.LiveEnd.TheVariants as end
 use Rattle.live_run.specs.Ends.{EndGets, run_lines_text}
-use Rattle.live_run.specs.Reached.{HasNoMemory, IsBrokenOff, IsCutOff, WriterCall, at_rest, in_run, of_unexpected, of_refusal, first_result_place, lines_before_call, text_of_call, results_behind}
+use Rattle.live_run.specs.RunReached.{HasNoMemory, IsBrokenOff, IsCutOff, WriterCall, of_held_back, in_run, of_unexpected, of_refusal, first_result_place, lines_before_call, text_of_call, results_behind}
 use Rattle.plan_laws.proofs.LawfulTable.{lawful}
 use Rattle.plan_laws.proofs.OnePlan.{one_list, one_placed}
 use Rattle.planner.proofs.SomePlan.{actions, goals, is_plan}
@@ -36,9 +36,9 @@ use Rattle.sim_core.specs.declared.words.Command.{Command}
 use Rattle.sim_core.specs.declared.words.Command.TheVariants.{Check, Scores, Why, Graph, Survive, Audit, Replay, Gen, World, Help, Version}
 use Rattle.sim_core.specs.Answers.{IsWritten, WordAnswers}
 use Rattle.sim_core.specs.Headline.{HasOnePlan, HasPrinted, HasWrittenFront, IsOfHead, IsOneSafeRun, IsSafeAllTheWay, IsSafeOutput, IsTextOfOneSafeRun, WritesASafeRun}
-use Rattle.sim_core.specs.Live.{HasWrittenReplay, SaysLive, amid_head, behind_head, of_head, of_run, at_first, between_two}
-use Rattle.sim_core.specs.Replay.{IsBegun, IsReplayOutput, IsTextOfRun, coming_behind}
-use Rattle.sim_core.specs.Table.{live, intake}
+use Rattle.sim_core.specs.LiveAnswers.{HasWrittenReplay, SaysLive, amid_head, behind_head, of_head, of_run, at_first, between_two}
+use Rattle.sim_core.specs.Replay.{IsHeadRead, IsReplayOutput, IsTextOfRun, coming_behind}
+use Rattle.sim_core.specs.Commands.{live, intake}
 use Rattle.sim_core.proofs.SameComing.{same_coming}
 use Rattle.sim_core.proofs.SomeEnd.{HasEnd, some_end}
 use Rattle.sim_core.proofs.WrittenFronts.{cut_at}
@@ -54,7 +54,7 @@ has_one_plan c promotions valid es = record {
 }
 
 -- the run of a head that is read is safe, whatever comes behind it
-module _ (input bytes : List ℕ) (head : Head) (next room : ℕ) (begun : IsBegun input bytes head next room) where
+module _ (input bytes : List ℕ) (head : Head) (next room : ℕ) (begun : IsHeadRead input bytes head next room) where
   pub safe_all_the_way : (coming : Coming) → IsSafeAllTheWay head coming
   safe_all_the_way coming =
       let c = head.cluster in
@@ -110,7 +110,7 @@ module _ (input : List ℕ) where
     written_safe status w = record { text = w.text; due = output_safe status w.text w.due; added = w.added }
 
     -- behind the head
-    module _ (bytes : List ℕ) (head : Head) (reading : Reading) (unread : List ℕ) (begun : IsBegun input bytes head reading.next reading.room) where
+    module _ (bytes : List ℕ) (head : Head) (reading : Reading) (unread : List ℕ) (begun : IsHeadRead input bytes head reading.next reading.room) where
       abbrev all : Coming
       all = results_behind head.cluster head.journal reading unread
 
@@ -181,7 +181,7 @@ module _ (input : List ℕ) where
         parts = ap (λ (t : List ℕ). t ++ run_line head.cluster call.at) (flat_map-append (run_line head.cluster) call.printed call.told)
             ∙ append_assoc (run_lines_text head.cluster call.printed) (run_lines_text head.cluster call.told) (run_line head.cluster call.at);
       }
-      stands_before (at_rest call) = record { lines = call.printed; at = call.at; behind = _; printed = call.run; last = []; parts = refl }
+      stands_before (of_held_back call) = record { lines = call.printed; at = call.at; behind = _; printed = call.run; last = []; parts = refl }
       stands_before (of_unexpected call) = record {
         lines = call.printed;
         at = call.run.run.last;

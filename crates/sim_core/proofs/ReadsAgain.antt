@@ -1,5 +1,5 @@
 -- What `check` writes of an input is read as the same statements and the same cluster.
-use Rattle.std.proofs.Common.{arith, ◌≡◌, ℕ, ◌+◌, true, List, [], ◌∷◌, ◌++◌, length, take, drop, Ok, refl, sym, ap, subst, ◌∙◌, ◌-◌}
+use Rattle.std.proofs.Common.{arith, ◌≡◌, ℕ, true, List, [], ◌∷◌, ◌++◌, length, take, drop, Ok, refl, sym, ap, subst, ◌∙◌}
 use Rattle.std.proofs.Math.Seq.{take-length}
 use Rattle.std.proofs.lemmas.List.{take-append-drop}
 use Rattle.crm_lex.specs.declared.line.Line.{Line}
@@ -8,7 +8,7 @@ use Rattle.crm_parse.specs.declared.statement.Crm.{Crm}
 use Rattle.crm_parse.specs.Marks.{sections_of}
 use Rattle.crm_parse.specs.Statements.{statements_of}
 use Rattle.crm_print.proofs.NoSections.{statements-alone, whole_text}
-use Rattle.crm_print.specs.Again.{ReadsAs, has_short_lines}
+use Rattle.crm_print.specs.PrintedAgain.{ReadsAs, has_short_lines}
 use Rattle.crm_print.specs.Text.{canonical_text}
 use Rattle.crm_print.proofs.ReadsAgain.{canonical-again, reads-again-commented}
 use Rattle.cluster_model.specs.declared.expansion.leaves.Leaves.{Leaves}
@@ -21,7 +21,7 @@ use Rattle.input_reading.specs.declared.input.reading.Input.{Input}
 use Rattle.sim_core.specs.Check.{check_text, counts_line, rules_in}
 use Rattle.input_reading.specs.Reading.{ReadsInput, following_lines, head_of, input_of, status_lines, with_results}
 use Rattle.input_reading.proofs.ValidInput.{cluster_valid, results_keep_head}
-use Rattle.sim_core.specs.Again.{IsReadAgain}
+use Rattle.sim_core.specs.CheckedAgain.{IsReadAgain}
 use Rattle.sim_core.proofs.InputSteps.{HasGiven, by_sections, has_given, in_steps}
 use Rattle.sim_core.proofs.TraceSections.{nothing_past}
 use Rattle.sim_core.proofs.Comments.{counts, counts-comment}

@@ -1,5 +1,5 @@
 -- An input of which a line is refused is refused whole, and why.
-use Rattle.std.proofs.Common.{arith, ◌≡◌, ◌⊎◌, inl, inr, ◌≤◌, ◌+◌, ◌-◌, ℕ, false, List, [], ◌∷◌, ◌++◌, length, drop, map, codes, Result, Ok, Err, append-nil, refl, sym, ap, subst, ◌∙◌}
+use Rattle.std.proofs.Common.{arith, ◌≡◌, ◌⊎◌, inl, inr, ◌≤◌, ℕ, false, List, [], ◌∷◌, ◌++◌, length, drop, map, codes, Result, Ok, Err, append-nil, refl, sym, ap, subst, ◌∙◌}
 use Rattle.std.specs.Prelude.{Option, Some, None}
 use Rattle.std.specs.List.{list_any}
 use Rattle.std.proofs.lemmas.Bool.{or_parts}
@@ -28,9 +28,9 @@ use Rattle.input_reading.specs.declared.input.cause.InputCause.TheVariants as ca
 use Rattle.input_reading.specs.declared.input.reading.Head.{Head}
 use Rattle.input_reading.specs.declared.input.reading.Input.{Input}
 use Rattle.input_reading.specs.FirstJournal.{status_journal}
-use Rattle.input_reading.specs.Reading.{IsFaultyText, IsReadable, IsTextRefused, configuration_lines, head_of, input_of, most_bytes, nothing_yet, start_of, status_lines, with_results}
+use Rattle.input_reading.specs.Reading.{IsFaultyText, IsReadable, IsTextRefused, configuration_lines, head_of, input_of, most_bytes, nothing_yet, lone_head_of, status_lines, with_results}
 use Rattle.input_reading.proofs.Faults.{read_or_faulty}
-use Rattle.live_run.specs.Coming.{Coming}
+use Rattle.live_run.specs.AnswersToCome.{Coming}
 use Rattle.live_run.specs.Heads as heads
 use Rattle.live_run.specs.declared.line_stop.LineCause.TheVariants as of_line
 use Rattle.live_run.specs.declared.line_stop.LineStop.{LineStop}
@@ -38,8 +38,8 @@ use Rattle.live_run.specs.declared.line_stop.LineStop.TheVariants as stop
 use Rattle.live_run.proofs.ComingRead.{SaysStop}
 use Rattle.live_run.proofs.HeadRead.{SaysHead, fault_behind, head_is}
 use Rattle.live_run.proofs.LinesJoined.{are_read, lines_clean, same_words, text_bytes}
-use Rattle.sim_core.specs.LineByLine.{HasPlainLines, HasPlainRest, HasRefusedLine, IsRefusedByLine, has_no_words, in_head, is_no_answer}
-use Rattle.sim_core.specs.Replay.{coming_behind, head_in, lacks_words, says_nothing}
+use Rattle.sim_core.specs.LineByLine.{HasPlainLines, HasPlainRest, HasRefusedLine, IsRefusedByLine, line_isnt_cut, in_head, is_no_answer}
+use Rattle.sim_core.specs.Replay.{coming_behind, head_in, words_refused, head_refused}
 use Rattle.sim_core.proofs.InputSteps.{by_sections, steps_on, without_sections, without_words}
 use Rattle.sim_core.proofs.InputAgain.{as_together, behind, come_says, comes, faults_are, h, head_read, is_input, others, rest_is, rows, size, together}
 use Rattle.sim_core.proofs.OneReplay.{carried, no_fault, same_head}
@@ -69,8 +69,8 @@ steps_none configuration status =
     then_none (faulting cause.Cluster (resolution_of leaves crm.statements)) _ (step_none cause.Cluster (λ c why e. cc) (resolution_of leaves crm.statements)) (λ cluster.
     then_none (head_of crm cluster status) _ (head_none crm cluster status) (λ head line why e. cc))))
 
-start_none : (bytes : List ℕ) (lines : List Line) → reads bytes ≡ Ok lines → NoWords (start_of bytes)
-unfolding start_of
+start_none : (bytes : List ℕ) (lines : List Line) → reads bytes ≡ Ok lines → NoWords (lone_head_of bytes)
+unfolding lone_head_of
 start_none bytes lines are line why e = by (sections_of lines) refl
   where
     by : (marks : Result SectionMarks (Fault ParseCause)) → sections_of lines ≡ marks → ⊥
@@ -146,13 +146,13 @@ module _ (text : List ℕ) where
               ∙ sym none
           by (Some line) some = misplaced_first (codes "%results") [] (rows text bytes next room is) (others text bytes next room is) line some ∙ sym some
 
-      whole_is : input_of text ≡ (start_of bytes >>= (λ head. with_results head (others text bytes next room is)))
+      whole_is : input_of text ≡ (lone_head_of bytes >>= (λ head. with_results head (others text bytes next room is)))
       whole_is = as_together text bytes next room is clean in_place
 
-      in_the_head : (line : ℕ) (why : InputCause) → start_of bytes ≡ Err (At line why) → IsTextRefused text line why
-      in_the_head line why says = whole_is ∙ bind-err (start_of bytes) (λ head. with_results head (others text bytes next room is)) (At line why) says
+      in_the_head : (line : ℕ) (why : InputCause) → lone_head_of bytes ≡ Err (At line why) → IsTextRefused text line why
+      in_the_head line why says = whole_is ∙ bind-err (lone_head_of bytes) (λ head. with_results head (others text bytes next room is)) (At line why) says
 
-      in_results : (head : Head) (line : ℕ) (why : ResultCause) → start_of bytes ≡ Ok head
+      in_results : (head : Head) (line : ℕ) (why : ResultCause) → lone_head_of bytes ≡ Ok head
           → (coming_behind text bytes head next room).stop ≡ Some (stop.Refused line (of_line.Form why)) → IsTextRefused text line (cause.Results why)
       unfolding with_results
       in_results head line why says w =
@@ -161,17 +161,17 @@ module _ (text : List ℕ) where
 
 -- the fault is the same, where no line behind the head lacks words or is a section line
 pub same_fault : (text : List ℕ) (line : ℕ) (why : InputCause) → IsRefusedByLine text line why → HasPlainRest text → IsTextRefused text line why
-same_fault text _ _ (in_head _ _ (lacks_words line w is)) plain = words_in_head text line w is
-same_fault text _ _ (in_head _ _ (says_nothing bytes next room line why is says)) plain = in_the_head text bytes next room is (plain bytes next room is) line why says
-same_fault text _ _ (has_no_words bytes head next room line w begun none) plain = words_behind text bytes next room begun.is head line w none
+same_fault text _ _ (in_head _ _ (words_refused line w is)) plain = words_in_head text line w is
+same_fault text _ _ (in_head _ _ (head_refused bytes next room line why is says)) plain = in_the_head text bytes next room is (plain bytes next room is) line why says
+same_fault text _ _ (line_isnt_cut bytes head next room line w begun none) plain = words_behind text bytes next room begun.is head line w none
 same_fault text _ _ (is_no_answer bytes head next room line w begun none) plain = in_results text bytes next room begun.is (plain bytes next room begun.is) head line w begun.says none
 
 -- and where the line lacks words
 same_words_fault : (text : List ℕ) (line : ℕ) (why : InputCause) → IsRefusedByLine text line why → (w : LexCause) → why ≡ cause.Words w → IsTextRefused text line why
-same_words_fault text _ _ (in_head _ _ (lacks_words line why is)) w same = words_in_head text line why is
-same_words_fault text _ _ (in_head _ _ (says_nothing bytes next room line why is says)) w same =
+same_words_fault text _ _ (in_head _ _ (words_refused line why is)) w same = words_in_head text line why is
+same_words_fault text _ _ (in_head _ _ (head_refused bytes next room line why is says)) w same =
     absurd (start_none bytes (rows text bytes next room is) (head_read text bytes next room is) line w (says ∙ ap (λ (c : InputCause). Err (At line c)) same))
-same_words_fault text _ _ (has_no_words bytes head next room line v begun none) w same = words_behind text bytes next room begun.is head line v none
+same_words_fault text _ _ (line_isnt_cut bytes head next room line v begun none) w same = words_behind text bytes next room begun.is head line v none
 same_words_fault text _ _ (is_no_answer bytes head next room line v begun none) w same = absurd (let f : ⊥ = cc in f)
 
 pub same_words_refused : (text : List ℕ) (line : ℕ) (why : LexCause) → IsRefusedByLine text line (cause.Words why) → IsTextRefused text line (cause.Words why)
@@ -186,7 +186,7 @@ module _ (text : List ℕ) (fits : length text ≤ most_bytes) where
   not_both : (line : ℕ) (why : InputCause) → IsRefusedByLine text line why → (whole : Input) → input_of text ≡ Ok whole → ⊥
   not_both line why (in_head _ _ fault) whole r =
       let came = comes text whole r fits in no_fault text came.bytes whole.head came.next came.room line why came.begun fault
-  not_both _ _ (has_no_words bytes head next room line w begun none) whole r =
+  not_both _ _ (line_isnt_cut bytes head next room line w begun none) whole r =
       apart _ _ (sym r ∙ words_behind text bytes next room begun.is head line w none)
   not_both _ _ (is_no_answer bytes head next room line w begun none) whole r =
       let came = comes text whole r fits in
@@ -203,7 +203,7 @@ module _ (text : List ℕ) (fits : length text ≤ most_bytes) where
       by (inr faulty) = faulty
 
   -- memory is no reason to refuse what a head says
-  some_memory : (bytes : List ℕ) (next room : ℕ) → head_in text ≡ heads.taken bytes next room → start_of bytes ≡ Err NoMemory → ⊥
+  some_memory : (bytes : List ℕ) (next room : ℕ) → head_in text ≡ heads.taken bytes next room → lone_head_of bytes ≡ Err NoMemory → ⊥
   some_memory bytes next room is says = by (read_or_faulty bytes)
     where
       all : List Line
@@ -213,7 +213,7 @@ module _ (text : List ℕ) (fits : length text ≤ most_bytes) where
       whole =
           together bytes bytes (rows text bytes next room is) [] (head_read text bytes next room is) (head_read text bytes next room is ∙ ap Ok (sym (append-nil (rows text bytes next room is))))
           (h text bytes next room is).more (h text bytes next room is).ends (λ none. refl) (ap (misplaced (codes "%results") []) (append-nil (rows text bytes next room is)))
-          ∙ bind-err (start_of bytes) (λ head. with_results head []) NoMemory says
+          ∙ bind-err (lone_head_of bytes) (λ head. with_results head []) NoMemory says
 
       by : IsReadable bytes ⊎ IsFaultyText bytes → ⊥
       by (inl readable) = apart _ _ (sym readable.reads ∙ whole)
@@ -222,12 +222,12 @@ module _ (text : List ℕ) (fits : length text ≤ most_bytes) where
   pub refused_line : IsFaultyText text → HasRefusedLine text
   refused_line faulty = by (head_in text) refl (head_is [] most_bytes 1 (raw_lines text) (own_lines text))
     where
-      of_stop : (bytes : List ℕ) (next room : ℕ) (is : head_in text ≡ heads.taken bytes next room) (head : Head) → start_of bytes ≡ Ok head → (w : Option LineStop)
+      of_stop : (bytes : List ℕ) (next room : ℕ) (is : head_in text ≡ heads.taken bytes next room) (head : Head) → lone_head_of bytes ≡ Ok head → (w : Option LineStop)
           → (coming_behind text bytes head next room).stop ≡ w → HasRefusedLine text
       of_stop bytes next room is head says None none =
           absurd (apart _ _ (sym (is_input text bytes next room is head says none) ∙ faulty.fault))
       of_stop bytes next room is head says (Some (stop.Refused line (of_line.Words why))) none =
-          record { line = line; why = cause.Words why; refused = has_no_words bytes head next room line why (record { is = is; says = says }) none }
+          record { line = line; why = cause.Words why; refused = line_isnt_cut bytes head next room line why (record { is = is; says = says }) none }
       of_stop bytes next room is head says (Some (stop.Refused line (of_line.Form why))) none =
           record { line = line; why = cause.Results why; refused = is_no_answer bytes head next room line why (record { is = is; says = says }) none }
       of_stop bytes next room is head says (Some stop.TooLarge) none =
@@ -239,12 +239,12 @@ module _ (text : List ℕ) (fits : length text ≤ most_bytes) where
           absurd (omega (arith, front, bytes_size, left, over, whole_size, fits))
       of_stop bytes next room is head says (Some stop.ReadFault) none = absurd (stopped text bytes next room is head (Some stop.ReadFault) none)
 
-      of_start : (bytes : List ℕ) (next room : ℕ) → head_in text ≡ heads.taken bytes next room → (read : Result Head (Fault InputCause)) → start_of bytes ≡ read → HasRefusedLine text
+      of_start : (bytes : List ℕ) (next room : ℕ) → head_in text ≡ heads.taken bytes next room → (read : Result Head (Fault InputCause)) → lone_head_of bytes ≡ read → HasRefusedLine text
       of_start bytes next room is (Ok head) says = of_stop bytes next room is head says (coming_behind text bytes head next room).stop refl
-      of_start bytes next room is (Err (At line why)) says = record { line = line; why = why; refused = in_head line why (says_nothing bytes next room line why is says) }
+      of_start bytes next room is (Err (At line why)) says = record { line = line; why = why; refused = in_head line why (head_refused bytes next room line why is says) }
       of_start bytes next room is (Err NoMemory) says = absurd (some_memory bytes next room is says)
 
-      by : (verdict : heads.HeadVerdict) → head_in text ≡ verdict → SaysHead [] most_bytes 1 (raw_lines text) verdict → HasRefusedLine text
-      by (heads.taken bytes next room) is says = of_start bytes next room is (start_of bytes) refl
-      by (heads.refused line why) is says = record { line = line; why = why; refused = in_head line why (lacks_words line why is) }
+      by : (verdict : heads.HeadFound) → head_in text ≡ verdict → SaysHead [] most_bytes 1 (raw_lines text) verdict → HasRefusedLine text
+      by (heads.taken bytes next room) is says = of_start bytes next room is (lone_head_of bytes) refl
+      by (heads.refused line why) is says = record { line = line; why = why; refused = in_head line why (words_refused line why is) }
       by heads.too_large is over = let bytes_size = ap (λ (bs : List ℕ). length bs) (text_bytes text) in absurd (omega (arith, over, bytes_size, fits))

@@ -1,5 +1,5 @@
 -- A run that was written for result lines is lawful in their place.
-use Rattle.std.proofs.Common.{◌≡◌, ◌+◌, ◌-◌, ℕ, true, List, [], ◌∷◌, ◌++◌, map, codes, Ok, append_assoc, refl, sym, ap, subst, ◌∙◌}
+use Rattle.std.proofs.Common.{◌≡◌, ◌+◌, ℕ, true, List, [], ◌∷◌, ◌++◌, map, codes, Ok, append_assoc, refl, sym, ap, subst, ◌∙◌}
 use Rattle.std.specs.Str.{is_utf8}
 use Rattle.std.proofs.lemmas.Str.{is_utf8-from_IsUtf8}
 use Rattle.cluster_types.specs.declared.run.RunLine.{RunLine}
@@ -11,9 +11,9 @@ use Rattle.crm_parse.specs.Marks.{sections_of}
 use Rattle.crm_print.proofs.Clean.{clean-ascii}
 use Rattle.input_reading.specs.declared.input.reading.Head.{Head}
 use Rattle.input_reading.specs.declared.results.result_lines.ResultLine.{ResultLine}
-use Rattle.input_reading.specs.Reading.{ReadsInput, nothing_yet, start_of}
+use Rattle.input_reading.specs.Reading.{ReadsInput, nothing_yet, lone_head_of}
 use Rattle.input_reading.specs.RunReading.{read_run_lines}
-use Rattle.input_reading.specs.Written.{ReadsAgain, with_line_numbers}
+use Rattle.input_reading.specs.PrintedLines.{ReadsAgain, with_line_numbers}
 use Rattle.input_reading.proofs.AnswersFit.{read_answers}
 use Rattle.input_reading.proofs.TextAgain.{text_again}
 use Rattle.input_reading.proofs.ValidInput.{cluster_valid}
@@ -23,9 +23,9 @@ use Rattle.live_run.proofs.LinesJoined.{AreRead, are_read, both_none, faults_joi
 use Rattle.written_runs.proofs.ReadFits.{read_few, read_intervals}
 use Rattle.written_runs.proofs.WrittenLines.{told_written}
 use Rattle.sim_core.specs.Audit.{IsLawfulTrace, lawful_text}
-use Rattle.sim_core.specs.Lawful.{IsLawfulRun, said}
+use Rattle.sim_core.specs.LawfulRuns.{IsLawfulRun, said}
 use Rattle.sim_core.specs.Replay.{coming_behind}
-use Rattle.sim_core.specs.Traced.{IsHeadBefore, results_begin, trace_begins, with_result_section, with_trace_section}
+use Rattle.sim_core.specs.TraceSection.{IsHeadBefore, results_begin, trace_begins, with_result_section, with_trace_section}
 use Rattle.sim_core.proofs.OwnAnswers.{whole_is_lawful}
 use Rattle.sim_core.proofs.InputAgain.{is_input}
 use Rattle.sim_core.proofs.InputSteps.{HasSections, has_sections}
@@ -54,7 +54,7 @@ module _ (front results : List ℕ) (head : Head) (next room : ℕ) (b : IsHeadB
   n = 1 + count_lines (raw_lines front)
 
   read_head : HasSections sections_of (front ++ results_begin)
-  unfolding start_of
+  unfolding lone_head_of
   read_head = has_sections sections_of (λ all. nothing_yet) (front ++ results_begin) head b.begun.says
 
   cut : raw_lines (front ++ results_begin) ≡ raw_lines front ++ (results_begin ∷ []) ∷ []
@@ -109,7 +109,7 @@ module _ (front results : List ℕ) (head : Head) (next room : ℕ) (b : IsHeadB
       whole = _;
       reads = trace-is (front ++ results_begin) (with_trace_section front trace) rows n head b.begun.says lines_are (rows_from (n + 1) (raw_lines trace)) anew.anew traced anew.read;
       lawful = subst (λ (lines : List RunLine). IsLawfulRun head.cluster head.journal lines) (sym (anew.same ∙ said_numbered 1 w.lines))
-          (whole_is_lawful head.cluster head.journal true _ w.lines w.run.left w.run.run);
+          (whole_is_lawful head.cluster head.journal true _ w.lines w.run.journal_now w.run.run);
       printed = refl;
     }
 

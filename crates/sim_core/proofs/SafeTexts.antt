@@ -10,7 +10,7 @@ use Rattle.input_reading.specs.declared.input.reading.Input.{Input}
 use Rattle.input_reading.specs.Reading.{ReadsInput}
 use Rattle.run_safety.proofs.SafeRuns.{safe_run}
 use Rattle.simulated.proofs.Moments.{each_moment}
-use Rattle.sim_core.specs.Generated.{IsRunOf, IsSummaryText, answers_of, cut, to_its_end}
+use Rattle.sim_core.specs.GenSummary.{IsRunOf, IsSummaryText, answers_of, cut, to_its_end}
 use Rattle.sim_core.specs.SafeTexts.{IsSummaryOfSafeRun, IsTextOfSafeWorld}
 use Rattle.sim_core.specs.World.{IsWorldOf}
 use Rattle.written_runs.proofs.Fronts.{on_the_way}

@@ -6,8 +6,8 @@ use Rattle.cluster_types.specs.Journals.{moment_of}
 use Rattle.crm_lex.specs.RawLines.{raw_lines}
 use Rattle.input_reading.specs.declared.input.reading.Head.{Head}
 use Rattle.input_reading.specs.Reading.{longest_line}
-use Rattle.live_run.specs.Coming.{coming}
-use Rattle.live_run.specs.Reached.{results_behind}
+use Rattle.live_run.specs.AnswersToCome.{coming}
+use Rattle.live_run.specs.RunReached.{results_behind}
 use Rattle.live_run.specs.declared.place.Place.{Place}
 use Rattle.sim_core.specs.Replay.{coming_behind}
 

@@ -13,10 +13,10 @@ use Rattle.cluster_types.specs.declared.placement.Target.{Target}
 use Rattle.cluster_types.specs.declared.placement.Target.TheVariants as target
 use Rattle.cluster_types.specs.declared.run.RunLine.{RunLine}
 use Rattle.cluster_types.specs.Tables.{targets_of}
-use Rattle.cluster_types.specs.Texts.{event_lines, goal_line, lacking_lines, leaf_lines, pin_lines}
+use Rattle.cluster_types.specs.Texts.{event_lines, goal_lines, lacking_lines, leaf_lines, pin_lines}
 use Rattle.graph_exec.specs.declared.transition.watcher.Heard.{Heard}
 use Rattle.graph_exec.specs.declared.transition.watcher.Heard.TheVariants as heard
-use Rattle.graph_exec.specs.Telling.{RunView, StopsAmong, plan_lines, view_later}
+use Rattle.graph_exec.specs.WatcherLines.{RunView, StopsAmong, plan_lines, view_later}
 use Rattle.sim_core.specs.declared.auditor.Auditor.{Auditor}
 use Rattle.sim_core.specs.Inner.Auditors.{PassesLines, ShowsEvents, ShowsRun, StopsAtLine, audited_lines, is_event_line}
 
@@ -30,7 +30,7 @@ module _ (c : Cluster) where
   none_of_pin r None = refl
   none_of_pin r (Some pin) = refl
 
-  none_of_goal : (r n : ℕ) (goal : Target) → filter is_event_line (goal_line c r n goal) ≡ []
+  none_of_goal : (r n : ℕ) (goal : Target) → filter is_event_line (goal_lines c r n goal) ≡ []
   none_of_goal r n target.Nowhere = refl
   none_of_goal r n target.Started = refl
   none_of_goal r n target.Promoted = refl
@@ -42,12 +42,12 @@ module _ (c : Cluster) where
   none_of_leaf : (placed : Placed) (r : ℕ) → filter is_event_line (leaf_lines c placed.pins (targets_of placed.table) placed.none r) ≡ []
   none_of_leaf placed r =
       let pin = pin_lines c r (unwrap_or (slice_get placed.pins r) None) in
-      let goals = flat_map (λ n. goal_line c r n (targets_of placed.table r n)) (range_with_len 0 (length c.nodes)) in
+      let goals = flat_map (λ n. goal_lines c r n (targets_of placed.table r n)) (range_with_len 0 (length c.nodes)) in
       let reason = lacking_lines c r (unwrap_or (slice_get placed.none r) None) in
       filter-append is_event_line (pin ++ goals) reason
       ∙ (ap (λ ls. ls ++ filter is_event_line reason) (filter-append is_event_line pin goals
       ∙ (ap (λ ls. ls ++ filter is_event_line goals) (none_of_pin r (unwrap_or (slice_get placed.pins r) None))
-      ∙ none_in (λ n. goal_line c r n (targets_of placed.table r n)) (range_with_len 0 (length c.nodes)) (λ n. none_of_goal r n (targets_of placed.table r n))))
+      ∙ none_in (λ n. goal_lines c r n (targets_of placed.table r n)) (range_with_len 0 (length c.nodes)) (λ n. none_of_goal r n (targets_of placed.table r n))))
       ∙ none_of_reason r (unwrap_or (slice_get placed.none r) None))
 
   pub none_of_plan : (number : ℕ) (placed : Placed) → filter is_event_line (plan_lines c number placed) ≡ []

@@ -8,9 +8,9 @@ use Rattle.cluster_types.specs.Runs.{due, IsCutRun}
 use Rattle.cluster_types.specs.Valid.{IsValid}
 use Rattle.input_reading.specs.declared.results.result_lines.ResultLine.{ResultLine}
 use Rattle.live_run.proofs.Behind.{answer_in, runs_back, says_next}
-use Rattle.live_run.specs.Coming.{Coming}
+use Rattle.live_run.specs.AnswersToCome.{Coming}
 use Rattle.live_run.specs.Courses.{answers_to_come}
-use Rattle.live_run.specs.Ends.{IsDueText}
+use Rattle.live_run.specs.Ends.{IsDueEnd}
 use Rattle.live_run.specs.declared.line_stop.LineStop.{LineStop}
 use Rattle.live_run.specs.declared.line_stop.LineStop.TheVariants as why
 use Rattle.live_run.specs.declared.live_end.LiveEnd.{LiveEnd}
@@ -46,7 +46,7 @@ line_at (x ∷ xs) (a ∷ front) back given e =
 
 module _ (c : Cluster) (journal : Journal) (coming : Coming) where
   abbrev pub HasEnd : Type 0
-  HasEnd = (how : LiveEnd) × IsDueText c journal coming how
+  HasEnd = (how : LiveEnd) × IsDueEnd c journal coming how
 
   cut_ends : HasCutRun c journal.promotions journal.events (answers_to_come coming) (is_none coming.stop) → HasEnd
   cut_ends cut =
@@ -65,11 +65,11 @@ module _ (c : Cluster) (journal : Journal) (coming : Coming) where
             given = l.before;
             result = l.result;
             run = record {
-              left = cut.left;
+              journal_now = cut.journal_now;
               behind = l.behind;
               parts = l.parts;
-              run = subst (λ (x : Answer). IsCutRun c journal.promotions whole journal.events (Some told) cut.lines cut.left x (Some (map answer_in l.behind))) (sym l.is)
-                  (subst (λ (o : Option (List Answer)). IsCutRun c journal.promotions whole journal.events (Some told) cut.lines cut.left cut.given o) behind cut.run);
+              run = subst (λ (x : Answer). IsCutRun c journal.promotions whole journal.events (Some told) cut.lines cut.journal_now x (Some (map answer_in l.behind))) (sym l.is)
+                  (subst (λ (o : Option (List Answer)). IsCutRun c journal.promotions whole journal.events (Some told) cut.lines cut.journal_now cut.given o) behind cut.run);
             };
             printed = refl;
           };
@@ -85,7 +85,7 @@ module _ (c : Cluster) (journal : Journal) (coming : Coming) where
 
       all : coming.stop ≡ None → HasWholeRun c journal.promotions journal.events (answers_to_come coming) ⊎ HasCutRun c journal.promotions journal.events (answers_to_come coming) true → HasEnd
       all e (inl run) =
-          (end.Done, record { text = _; gets = record { lines = run.lines; run = record { left = run.left; all = e; run = run.run }; printed = refl } })
+          (end.Done, record { text = _; gets = record { lines = run.lines; run = record { journal_now = run.journal_now; all = e; run = run.run }; printed = refl } })
       all e (inr cut) = cut_where None e cut
 
       more : (w : LineStop) → coming.stop ≡ Some w → w ≢ why.ReadFault → HasRunSoFar c journal.promotions journal.events (answers_to_come coming) ⊎ HasCutRun c journal.promotions journal.events (answers_to_come coming) false
@@ -93,10 +93,10 @@ module _ (c : Cluster) (journal : Journal) (coming : Coming) where
       more w e ends (inr cut) = cut_where (Some w) e cut
       more why.ReadFault e ends (inl run) = absurd (ends refl)
       more why.TooLarge e ends (inl run) =
-          (end.TooLarge, record { text = _; gets = record { lines = run.lines; stop = e; run = record { left = run.left; run = run.run }; printed = refl } })
+          (end.TooLarge, record { text = _; gets = record { lines = run.lines; stop = e; run = record { journal_now = run.journal_now; run = run.run }; printed = refl } })
       more (why.Refused n refusal) e ends (inl run) = (
         end.Refused,
-        record { text = _; gets = record { lines = run.lines; line = n; cause = refusal; stop = e; run = record { left = run.left; run = run.run }; printed = refl } },
+        record { text = _; gets = record { lines = run.lines; line = n; cause = refusal; stop = e; run = record { journal_now = run.journal_now; run = run.run }; printed = refl } },
       )
 
       by : (w : Option LineStop) → coming.stop ≡ w → HasEnd

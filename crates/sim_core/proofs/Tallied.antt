@@ -27,7 +27,7 @@ use Rattle.cluster_types.specs.declared.run.RunLine.{RunLine}
 use Rattle.cluster_types.specs.declared.run.RunLine.TheVariants as line
 use Rattle.cluster_types.specs.Tables.{is_somewhere, targets_of}
 use Rattle.sim_core.specs.Summary.{cells_with_targets, last_targets}
-use Rattle.cluster_types.specs.Texts.{PassedFits, all_passed_lines, begin_of, between, end_lines, event_lines, goal_line, lacking_lines, leaf_lines, passed_lines, pin_lines, target_lines}
+use Rattle.cluster_types.specs.Texts.{PassedFits, all_passed_lines, begin_of, between, end_lines, event_lines, goal_lines, lacking_lines, leaf_lines, passed_lines, pin_lines, target_lines}
 
 -- how many transitions some lines begin, and how many targets stand behind the last of these beginnings
 pub record Tally : Type 0 where
@@ -113,7 +113,7 @@ all_cells (x ∷ cells) =
         ap (λ b. cond b 1 0 + passing (λ i. has_target (x ∷ cells) (i + 1)) (from + 1) n) same ∙ ap (λ z. cond (has_target cells from) 1 0 + z) (shifted (from + 1) n)
 
 module _ (c : Cluster) where
-  tally_goal : (t : Tally) (r n : ℕ) (goal : Target) → tally t (goal_line c r n goal) ≡ with_targets t (cond (is_somewhere goal) 1 0)
+  tally_goal : (t : Tally) (r n : ℕ) (goal : Target) → tally t (goal_lines c r n goal) ≡ with_targets t (cond (is_somewhere goal) 1 0)
   tally_goal t r n Nowhere = no_targets t
   tally_goal t r n Started = refl
   tally_goal t r n Promoted = refl
@@ -123,13 +123,13 @@ module _ (c : Cluster) where
     cell_is r n low = rw (lt-ltb n table.nodes low) refl
 
     tally_row : (t : Tally) (r from n : ℕ) → from + n ≤ table.nodes
-        → tally t (flat_map (λ m. goal_line c r m (targets_of table r m)) (range_with_len from n)) ≡ with_targets t (passing (has_target table.targets) (r * table.nodes + from) n)
+        → tally t (flat_map (λ m. goal_lines c r m (targets_of table r m)) (range_with_len from n)) ≡ with_targets t (passing (has_target table.targets) (r * table.nodes + from) n)
     tally_row t r from zero low = no_targets t
     tally_row t r from (suc n) low =
         let goal = targets_of table r from in
-        let rest = flat_map (λ m. goal_line c r m (targets_of table r m)) (range_with_len (from + 1) n) in
+        let rest = flat_map (λ m. goal_lines c r m (targets_of table r m)) (range_with_len (from + 1) n) in
         let here : is_somewhere goal ≡ has_target table.targets (r * table.nodes + from) = ap is_somewhere (cell_is r from (omega (arith, low))) in
-        tally-append t (goal_line c r from goal) rest
+        tally-append t (goal_lines c r from goal) rest
         ∙ (ap (λ z. tally z rest) (tally_goal t r from goal)
         ∙ (tally_row (with_targets t (cond (is_somewhere goal) 1 0)) r (from + 1) n (omega (arith, low))
         ∙ (more_targets t (cond (is_somewhere goal) 1 0) (passing (has_target table.targets) (r * table.nodes + (from + 1)) n)
@@ -193,10 +193,10 @@ module _ (c : Cluster) where
       tally_leaf t r =
           let pin = unwrap_or (slice_get pins r) None in
           let reason = unwrap_or (slice_get reasons r) None in
-          let row = flat_map (λ n. goal_line c r n (targets_of table r n)) (range_with_len 0 (length c.nodes)) in
+          let row = flat_map (λ n. goal_lines c r n (targets_of table r n)) (range_with_len 0 (length c.nodes)) in
           let t' = with_targets t (passing (has_target table.targets) (r * table.nodes) table.nodes) in
           let counted : tally t row ≡ t'
-          = ap (λ z. tally t (flat_map (λ n. goal_line c r n (targets_of table r n)) (range_with_len 0 z))) (sym nodes)
+          = ap (λ z. tally t (flat_map (λ n. goal_lines c r n (targets_of table r n)) (range_with_len 0 z))) (sym nodes)
           ∙ (tally_row t r 0 table.nodes (omega arith)
           ∙ ap (λ z. with_targets t (passing (has_target table.targets) z table.nodes)) (let e : r * table.nodes + 0 ≡ r * table.nodes = omega arith in e)) in
           tally-append t (pin_lines c r pin ++ row) (lacking_lines c r reason)

@@ -6,9 +6,9 @@ use Rattle.cluster_types.specs.declared.run.RunLine.{RunLine}
 use Rattle.input_reading.specs.declared.run.text.RunTextLine.{RunTextLine}
 use Rattle.sim_core.specs.declared.auditor.Auditor.{Auditor}
 use Rattle.sim_core.specs.Inner.Auditors.{PassesLines, StopsAtLine, audited_cluster, audited_lines}
-use Rattle.graph_exec.specs.Telling.{StopsAmong}
+use Rattle.graph_exec.specs.WatcherLines.{StopsAmong}
 use Rattle.sim_core.specs.Inner.AuditorLaws.{passes_then, stops_later}
-use Rattle.sim_core.specs.Lawful.{clause_of, said}
+use Rattle.sim_core.specs.LawfulRuns.{clause_of, said}
 
 take_next : {X : Type 0} (xs : List X) (i : ℕ) (x : X) → slice_get xs i ≡ Some x → take (i + 1) xs ≡ take i xs ++ x ∷ []
 take_next [] i x e = absurd (none-some x e)

@@ -1,5 +1,5 @@
 -- A text with a trace in the place of its results has the same head, and the lines of the trace.
-use Rattle.std.proofs.Common.{arith, ◌≡◌, ◌+◌, ◌==◌, ℕ, Bool, true, false, not, if◌then◌else◌, List, [], ◌∷◌, ◌++◌, map, codes, Result, Ok, Err, refl, sym, ap, subst, ◌∙◌}
+use Rattle.std.proofs.Common.{◌≡◌, ℕ, Bool, true, false, not, if◌then◌else◌, List, [], ◌∷◌, ◌++◌, map, codes, Result, Ok, Err, refl, sym, ap, subst, ◌∙◌}
 use Rattle.std.specs.Prelude.{Some, None}
 use Rattle.std.specs.List.{list_any}
 use Rattle.std.proofs.lemmas.List.{map-append}
@@ -7,7 +7,8 @@ use Rattle.cluster_types.specs.declared.cluster.Cluster.{Cluster}
 use Rattle.cluster_types.specs.declared.run.RunLine.{RunLine}
 use Rattle.crm_lex.specs.declared.line.Line.{Line}
 use Rattle.crm_lex.specs.Reading.{reads}
-use Rattle.crm_parse.specs.Marks.{first_word, has_percent, is_mark, misplaced, sections_of}
+use Rattle.crm_parse.specs.Marks.{is_mark, misplaced, sections_of}
+use Rattle.crm_parse.proofs.PairWords.{place-behind}
 use Rattle.crm_parse.proofs.Unmarked.{all_placed}
 use Rattle.faults.specs.declared.fault.Fault.{Fault}
 use Rattle.faults.specs.Reading.{on_line, ◌>>=◌}
@@ -19,16 +20,17 @@ use Rattle.input_reading.specs.declared.run.text.RunTextLine.{RunTextLine}
 use Rattle.input_reading.specs.declared.words.word_cause.WordCause.{WordCause}
 use Rattle.input_reading.specs.declared.words.word_cause.WordCause.TheVariants.{UnknownStatement}
 use Rattle.input_reading.specs.LineWords.{line_word}
-use Rattle.input_reading.specs.Places.{WordsOfLine}
-use Rattle.input_reading.specs.Reading.{line_behind, nothing_yet, start_of}
+use Rattle.input_reading.specs.WordPlaces.{WordsOfLine}
+use Rattle.input_reading.specs.Reading.{line_behind, nothing_yet, lone_head_of}
 use Rattle.input_reading.specs.Results.{answer_of, result_word}
 use Rattle.input_reading.specs.RunReading.{answer_line, line_of_words, read_run_lines, text_line, with_run_lines}
 use Rattle.input_reading.specs.Sections.{sections_with_trace}
 use Rattle.input_reading.specs.Traces.{trace_of, with_run}
-use Rattle.sim_core.specs.Lawful.{said}
+use Rattle.sim_core.specs.LawfulRuns.{said}
 use Rattle.sim_core.proofs.InputAgain.{in_place, same_ok}
 use Rattle.sim_core.proofs.InputSteps.{configuration_in, has_sections, head_first, marks_by, status_in, steps_on, with_last}
-use Rattle.sim_core.proofs.TraceSections.{first_behind, misplaced_joined, misplaced_parts, no_trace, placed_traced, results_line, trace_line}
+use Rattle.sim_core.proofs.PlainResults.{plain_read}
+use Rattle.sim_core.proofs.TraceSections.{misplaced_joined, misplaced_parts, no_trace, placed_traced, results_line, trace_line}
 
 -- the line that begins results, and where it stands no line before it does
 abbrev pub results_mark : ℕ → Line
@@ -49,18 +51,6 @@ trace_mark n = record { line = n; words = codes "%trace" ∷ [] }
 no_run_line : (c : Cluster) (bs : List ℕ) (ws : WordsOfLine) → line_of_words c ((37 ∷ bs) ∷ ws) ≡ Err UnknownStatement
 unfolding line_of_words line_word answer_line answer_of result_word
 no_run_line c bs ws = refl
-
-plain_words : (c : Cluster) (words : WordsOfLine) (what : RunLine) → line_of_words c words ≡ Ok what → has_percent (first_word words) ≡ false
-plain_words c [] what e = refl
-plain_words c ([] ∷ ws) what e = refl
-plain_words c ((b ∷ bs) ∷ ws) what e = by (b == 37) refl
-  where
-    by : (t : Bool) → (b == 37) ≡ t → t ≡ false
-    by false at = refl
-    by true at =
-        let same : b ≡ 37 = grind arith in
-        let none = subst (λ x. line_of_words c ((x ∷ bs) ∷ ws) ≡ Err UnknownStatement) (sym same) (no_run_line c bs ws) in
-        cc
 
 -- what a line says that is read
 record SaysLine (c : Cluster) (at : Line) (one : RunTextLine) : Type 0 where
@@ -107,14 +97,14 @@ plain_lines c so_far [] out e = refl
 plain_lines c so_far (at ∷ rows) out e =
     let (one, is, rest) = bind-ok (text_line c at) (λ (one : RunTextLine). with_run_lines c (so_far ++ one ∷ []) rows) out e in
     let says = says_line c at one is in
-    let plain = plain_words c at.words says.what says.words in
+    let plain = plain_read (line_of_words c) (no_run_line c) at.words says.what says.words in
     let more = plain_lines c (so_far ++ one ∷ []) rows out rest in
     rw (plain, more) refl
 
 -- behind the line that ends a head stand no lines; in the place of that line a trace begins, whose lines are read as a run somewhere
-module _ (bytes text : List ℕ) (rows : List Line) (n : ℕ) (head : Head) (says : start_of bytes ≡ Ok head) (are : reads bytes ≡ Ok (rows ++ results_mark n ∷ [])) where
+module _ (bytes text : List ℕ) (rows : List Line) (n : ℕ) (head : Head) (says : lone_head_of bytes ≡ Ok head) (are : reads bytes ≡ Ok (rows ++ results_mark n ∷ [])) where
   placed_head : misplaced (codes "%results") [] (rows ++ results_mark n ∷ []) ≡ None
-  unfolding start_of
+  unfolding lone_head_of
   placed_head =
       let found = has_sections sections_of (λ all. nothing_yet) bytes head says in
       in_place (rows ++ results_mark n ∷ []) found.marks
@@ -126,11 +116,11 @@ module _ (bytes text : List ℕ) (rows : List Line) (n : ℕ) (head : Head) (say
   placed_front : misplaced (codes "%results") [] rows ≡ None
   placed_front = (misplaced_parts (codes "%results") [] rows (results_mark n ∷ []) placed_head).0
 
-  start : start_of bytes ≡ steps_on (configuration_in rows) (status_in rows) (λ head. Ok head)
-  unfolding start_of
+  start : lone_head_of bytes ≡ steps_on (configuration_in rows) (status_in rows) (λ head. Ok head)
+  unfolding lone_head_of
   start =
       with_last sections_of (λ all. nothing_yet) bytes (codes "%results") rows (results_mark n) [] are (rw placed_head refl)
-      (first_behind results_line rows (results_mark n) [] unended refl)
+      (place-behind results_line rows (results_mark n) [] unended refl)
 
   module _ (trace : List Line) (out : List RunTextLine) (all_are : reads text ≡ Ok (rows ++ trace_mark n ∷ trace)) (run : read_run_lines head.cluster trace ≡ Ok out) where
     abbrev all : List Line
@@ -153,6 +143,6 @@ module _ (bytes text : List ℕ) (rows : List Line) (n : ℕ) (head : Head) (say
     unfolding trace_of with_run
     trace-is =
         with_last sections_with_trace (λ all. with_run (line_behind all)) text (codes "%trace") rows (trace_mark n) trace all_are sections
-        (first_behind trace_line rows (trace_mark n) trace (no_trace [] rows placed_front) refl)
+        (place-behind trace_line rows (trace_mark n) trace (no_trace [] rows placed_front) refl)
         ∙ (head_first (configuration_in rows) (status_in rows) (λ head. with_run (line_behind all) head trace)
         ∙ (ap (λ (read : Result Head (Fault InputCause)). read >>= (λ head. with_run (line_behind all) head trace)) (sym start ∙ says) ∙ rw run refl))

@@ -118,14 +118,6 @@ module _ (last : List ℕ) where
 
 -- the first of some elements that passes, where others stand behind them
 module _ {X : Type 0} (p : X → Bool) where
-  pub first_within : (xs : List X) → position_or_len p xs ≤ length xs
-  first_within [] = omega arith
-  first_within (x ∷ xs) = by (p x) (first_within xs)
-    where
-      by : (b : Bool) → position_or_len p xs ≤ length xs → (if not b then 1 + position_or_len p xs else 0) ≤ length (x ∷ xs)
-      by true h = omega arith
-      by false h = omega (arith, h)
-
   pub first_in_front : (xs ys : List X) → min (position_or_len p (xs ++ ys)) (length xs) ≡ position_or_len p xs
   first_in_front [] ys = let e : min (position_or_len p ys) 0 ≡ 0 = omega arith in e
   first_in_front (x ∷ xs) ys = by (p x) (first_in_front xs ys)
@@ -134,14 +126,6 @@ module _ {X : Type 0} (p : X → Bool) where
           → min (if not b then 1 + position_or_len p (xs ++ ys) else 0) (length (x ∷ xs)) ≡ (if not b then 1 + position_or_len p xs else 0)
       by true h = let e : min 0 (length (x ∷ xs)) ≡ 0 = omega arith in e
       by false h = let e : min (1 + position_or_len p (xs ++ ys)) (length (x ∷ xs)) ≡ 1 + position_or_len p xs = omega (arith, h) in e
-
-  pub first_behind : (xs : List X) (y : X) (ys : List X) → list_any p xs ≡ false → p y ≡ true → position_or_len p (xs ++ y ∷ ys) ≡ length xs
-  first_behind [] y ys none there = rw there refl
-  first_behind (x ∷ xs) y ys none there =
-      let parts = or_parts (p x) (list_any p xs) none in
-      let other = parts.0 in
-      let more = first_behind xs y ys parts.1 there in
-      rw (other, more) (let e : 1 + length xs ≡ length (x ∷ xs) = omega arith in e)
 
   pub first_nowhere : (xs : List X) → list_any p xs ≡ false → position_or_len p xs ≡ length xs
   first_nowhere [] none = refl

@@ -4,9 +4,9 @@ use Rattle.cluster_io.specs.Streams.{Adds, AddsPrefix}
 use Rattle.sim_core.specs.declared.status.Status.{Status}
 use Rattle.sim_core.specs.declared.status.Status.TheVariants.{Done, NoMemory, Usage, ReadFault, WriteFault, Refused, Unexpected, TooLarge, NotLawful}
 use Rattle.sim_core.specs.declared.words.Command.{Command}
-use Rattle.sim_core.specs.Live.{SaysLive}
+use Rattle.sim_core.specs.LiveAnswers.{SaysLive}
 use Rattle.input_reading.specs.Reading.{most_bytes}
-use Rattle.sim_core.specs.Table.{Intake, nothing, whole, live, intake, takes_memory, Gets}
+use Rattle.sim_core.specs.Commands.{Intake, nothing, whole, live, intake, takes_memory, Gets}
 
 -- the input was read to its end, and had room
 pub record IsReadWhole (input : List ℕ) (left : Option (List ℕ)) : Type 0 where

@@ -6,7 +6,7 @@ use Rattle.input_reading.specs.Causes.{refusal_text}
 use Rattle.input_reading.specs.Traces.{IsTraceRefused, ReadsTrace}
 use Rattle.sim_core.specs.declared.verdict.Clause.{Clause}
 use Rattle.sim_core.specs.declared.verdict.Clause.TheVariants as due
-use Rattle.sim_core.specs.Lawful.{IsFaultyLine, IsLawfulRun, said}
+use Rattle.sim_core.specs.LawfulRuns.{IsFaultyLine, IsLawfulRun, said}
 use Rattle.sim_core.specs.declared.status.Status.{Status}
 use Rattle.sim_core.specs.declared.status.Status.TheVariants.{Done, NotLawful, Refused}
 

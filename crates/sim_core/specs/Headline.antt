@@ -9,22 +9,22 @@ use Rattle.cluster_types.specs.declared.journal.Event.{Event}
 use Rattle.cluster_types.specs.declared.journal.Promotion.{Promotion}
 use Rattle.cluster_types.specs.declared.placement.Placed.{Placed}
 use Rattle.cluster_types.specs.declared.run.RunLine.{RunLine}
-use Rattle.cluster_types.specs.Lawful.{IsLawful}
+use Rattle.cluster_types.specs.LawfulTables.{IsLawful}
 use Rattle.cluster_types.specs.Plans.{IsPlan}
 use Rattle.cluster_types.specs.Runs.{RunStanding, due, Runs}
 use Rattle.cluster_types.specs.Safety.{IsSafeRun}
 use Rattle.cluster_types.specs.Tables.{targets_of}
 use Rattle.cluster_types.specs.Valid.{IsValid}
 use Rattle.input_reading.specs.declared.input.reading.Head.{Head}
-use Rattle.live_run.specs.Coming.{Coming}
+use Rattle.live_run.specs.AnswersToCome.{Coming}
 use Rattle.live_run.specs.Courses.{answers_to_come}
 use Rattle.live_run.specs.declared.live_end.LiveEnd.{LiveEnd}
 use Rattle.live_run.specs.declared.live_end.LiveEnd.TheVariants as end
-use Rattle.live_run.specs.Ends.{EndGets, IsDueText, run_lines_text}
+use Rattle.live_run.specs.Ends.{EndGets, IsDueEnd, run_lines_text}
 use Rattle.sim_core.specs.declared.status.Status.{Status}
 use Rattle.sim_core.specs.declared.status.Status.TheVariants.{Done, NoMemory, Usage, ReadFault, WriteFault, Refused, Unexpected, TooLarge, NotLawful}
 use Rattle.sim_core.specs.Answers.{IsWritten}
-use Rattle.sim_core.specs.Replay.{IsBegun, IsHeadRefusal, IsHeadTooLarge, coming_behind}
+use Rattle.sim_core.specs.Replay.{IsHeadRead, IsHeadRefusal, IsHeadTooLarge, coming_behind}
 use Rattle.written_runs.specs.OverLines.{AreLinesSafe}
 
 -- for a journal there is one plan, and its targets obey the mandatory rules. That each decision is the best that those before it left is part of
@@ -67,7 +67,7 @@ module _ (head : Head) (coming : Coming) where
     pub behind : Option (List Answer)
     pub so_far : HasPrinted lines at behind
     pub added : Adds before (run_lines_text head.cluster lines ++ part) after
-    pub ends : (how : LiveEnd) × IsDueText head.cluster head.journal coming how
+    pub ends : (how : LiveEnd) × IsDueEnd head.cluster head.journal coming how
     pub begins : (how : LiveEnd) (text : List ℕ) → EndGets head.cluster head.journal coming how text → AddsPrefix text before after
     pub safe : IsSafeAllTheWay
 
@@ -77,7 +77,7 @@ pub record IsOfHead (input : List ℕ) (Holds : Head → Coming → Type 0) : Ty
   pub head : Head
   pub next : ℕ
   pub room : ℕ
-  pub begun : IsBegun input bytes head next room
+  pub begun : IsHeadRead input bytes head next room
   pub holds : Holds head (coming_behind input bytes head next room)
 
 -- the text is that of the one run of the input, which ends so and is safe

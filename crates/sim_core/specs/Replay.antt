@@ -6,7 +6,7 @@ use Rattle.faults.specs.declared.fault.Fault.TheVariants.{At}
 use Rattle.cluster_types.specs.declared.cluster.Cluster.{Cluster}
 use Rattle.cluster_types.specs.declared.journal.Journal.{Journal}
 use Rattle.cluster_types.specs.Journals.{moment_of}
-use Rattle.live_run.specs.Coming.{Coming, coming}
+use Rattle.live_run.specs.AnswersToCome.{Coming, coming}
 use Rattle.live_run.specs.Heads as heads
 use Rattle.live_run.specs.Ends.{IsBoundedText, IsCutText, IsRefusedText, IsWholeText}
 use Rattle.input_reading.specs.declared.input.cause.InputCause.{InputCause}
@@ -14,17 +14,17 @@ use Rattle.input_reading.specs.declared.input.reading.Head.{Head}
 use Rattle.sim_core.specs.declared.status.Status.{Status}
 use Rattle.sim_core.specs.declared.status.Status.TheVariants.{Done, Refused, TooLarge, Unexpected}
 use Rattle.input_reading.specs.Causes.{refusal_text}
-use Rattle.input_reading.specs.Reading.{longest_line, most_bytes, start_of}
+use Rattle.input_reading.specs.Reading.{longest_line, most_bytes, lone_head_of}
 
 -- the head of an input: its logical lines up to the one that begins the results, or all where none does
-abbrev pub head_in : List ℕ → heads.HeadVerdict
-head_in input = heads.head_verdict longest_line [] most_bytes 1 (raw_lines input)
+abbrev pub head_in : List ℕ → heads.HeadFound
+head_in input = heads.head_found longest_line [] most_bytes 1 (raw_lines input)
 
 -- the head of an input is read: it has these bytes, and says this. The line behind it has this number, and so many of the bytes behind it lie within the
 -- limit
-pub record IsBegun (input bytes : List ℕ) (head : Head) (next room : ℕ) : Type 0 where
+pub record IsHeadRead (input bytes : List ℕ) (head : Head) (next room : ℕ) : Type 0 where
   pub is : head_in input ≡ heads.taken bytes next room
-  pub says : start_of bytes ≡ Ok head
+  pub says : lone_head_of bytes ≡ Ok head
 
 -- what is to come behind a head of these bytes, which says this: the answers of the result lines, up to the first that is refused or goes past the limit
 abbrev pub coming_behind : List ℕ → List ℕ → Head → ℕ → ℕ → Coming
@@ -33,8 +33,8 @@ coming_behind input bytes head next room =
 
 -- the head has a fault: its first line that can't be cut into words; or, where there is none, the first fault of its text
 pub data IsHeadFault (input : List ℕ) : ℕ → InputCause → Type 0 where
-  lacks_words : (line : ℕ) (why : InputCause) → head_in input ≡ heads.refused line why → IsHeadFault input line why
-  says_nothing : (bytes : List ℕ) (next room line : ℕ) (why : InputCause) → head_in input ≡ heads.taken bytes next room → start_of bytes ≡ Err (At line why)
+  words_refused : (line : ℕ) (why : InputCause) → head_in input ≡ heads.refused line why → IsHeadFault input line why
+  head_refused : (bytes : List ℕ) (next room line : ℕ) (why : InputCause) → head_in input ≡ heads.taken bytes next room → lone_head_of bytes ≡ Err (At line why)
       → IsHeadFault input line why
 
 -- the text names the fault of the head
@@ -55,7 +55,7 @@ pub record IsTextOfRun (Says : Cluster → Journal → Coming → List ℕ → T
   pub head : Head
   pub next : ℕ
   pub room : ℕ
-  pub begun : IsBegun input bytes head next room
+  pub begun : IsHeadRead input bytes head next room
   pub says : Says head.cluster head.journal (coming_behind input bytes head next room) text
 
 -- an input of this content gets this status and this text

@@ -5,8 +5,8 @@ use Rattle.cluster_types.specs.declared.run.RunLine.{RunLine}
 use Rattle.cluster_types.specs.Safety.{IsSafeRun}
 use Rattle.cluster_types.specs.Texts.{run_lines}
 use Rattle.input_reading.specs.declared.input.reading.Input.{Input}
-use Rattle.simulated.specs.Moments.{IsLivedWithin}
-use Rattle.sim_core.specs.Generated.{IsSummaryText, answers_of}
+use Rattle.simulated.specs.RunsWithin.{IsLivedWithin}
+use Rattle.sim_core.specs.GenSummary.{IsSummaryText, answers_of}
 use Rattle.sim_core.specs.World.{IsWorldOf}
 use Rattle.written_runs.specs.OverLines.{AreLinesSafe, IsToldBy}
 

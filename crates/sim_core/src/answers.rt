@@ -2,7 +2,7 @@
 
 ghost use Rattle.std.specs.Prelude.{◌≡◌, ◌≤◌, ◌++◌, length, OnOk, IfOk};
 ghost use Rattle.std.specs.List.{flat_map};
-ghost use Rattle.sim_core.specs.Lawful.{answer_in};
+ghost use Rattle.sim_core.specs.LawfulRuns.{answer_in};
 
 use cluster_types::{Answer, RunLine};
 use input_reading::RunTextLine;

@@ -10,9 +10,9 @@ ghost use Rattle.cluster_types.specs.Runs.{IsWholeRun};
 ghost use Rattle.sim_core.specs.declared.verdict.Clause.{Clause as ClauseOf};
 ghost use Rattle.input_reading.specs.declared.input.reading.Head.{Head as HeadOf};
 ghost use Rattle.sim_core.specs.Audit.{IsAuditOutput, lawful_text};
-ghost use Rattle.sim_core.specs.Lawful.{IsFaultyClause, IsLawfulRun};
+ghost use Rattle.sim_core.specs.LawfulRuns.{IsFaultyClause, IsLawfulRun};
 ghost use Rattle.sim_core.specs.Replay.{IsReplayOutput};
-ghost use Rattle.sim_core.specs.Traced.{IsHeadBefore, with_result_section, with_trace_section};
+ghost use Rattle.sim_core.specs.TraceSection.{IsHeadBefore, with_result_section, with_trace_section};
 ghost use Rattle.sim_core.specs.declared.status.Status.TheVariants.{Done};
 
 /// A run with a line that isn't the due one isn't lawful.

@@ -5,7 +5,7 @@ ghost use Rattle.cluster_types.specs.Journals.{moment_of};
 ghost use Rattle.cluster_types.specs.Safety.{IsAtRest};
 ghost use Rattle.cluster_types.specs.Valid.{IsValid};
 ghost use Rattle.sim_core.specs.Audit.{IsAuditOutput, clause_name, unlawful_text};
-ghost use Rattle.sim_core.specs.Lawful.{Judges};
+ghost use Rattle.sim_core.specs.LawfulRuns.{Judges};
 
 use crate::input_word::InputWord;
 use crate::status::Status;

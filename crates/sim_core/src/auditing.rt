@@ -4,7 +4,7 @@ ghost use Rattle.std.specs.Prelude.{◌≡◌, ◌+◌, ◌<◌, ◌^◌, IfOk, 
 ghost use Rattle.cluster_types.specs.Journals.{moment_of};
 ghost use Rattle.cluster_types.specs.Safety.{IsAtRest};
 ghost use Rattle.cluster_types.specs.Valid.{IsValid};
-ghost use Rattle.sim_core.specs.Lawful.{Judges};
+ghost use Rattle.sim_core.specs.LawfulRuns.{Judges};
 
 use crate::answers::answers_in;
 use crate::auditor::Auditor;

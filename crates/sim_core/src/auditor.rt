@@ -3,8 +3,8 @@
 ghost use Rattle.std.specs.Prelude.{◌≡◌, ◌≤◌, ◌<◌, ◌↔◌, ◌∷◌, [], Some, true, is_some, IsTrue, slice_get, length};
 ghost use Rattle.cluster_io.specs.Streams.{Rose};
 ghost use Rattle.cluster_types.specs.Valid.{KeepsLimits};
-ghost use Rattle.graph_exec.specs.Telling.{ReasonsHaveNames, StopsAmong, plan_lines};
-ghost use Rattle.sim_core.specs.Lawful.{line_number_at, said};
+ghost use Rattle.graph_exec.specs.WatcherLines.{ReasonsHaveNames, StopsAmong, plan_lines};
+ghost use Rattle.sim_core.specs.LawfulRuns.{line_number_at, said};
 ghost use Rattle.sim_core.specs.declared.verdict.Clause.{Clause as ClauseOf};
 ghost use Rattle.trace_text.specs.RunLines.{lent_line};
 

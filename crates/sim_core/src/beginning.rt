@@ -11,7 +11,7 @@ ghost use Rattle.sim_core.specs.Inner.LiveSteps.{IsBehind, StopsBy, fresh};
 
 use cluster_io::{LineReader, Source};
 use crm_lex::WordBuf;
-use input_reading::{Head, InputFault, read_start};
+use input_reading::{Head, InputFault, read_lone_head};
 use live_run::{HeadStop, HeadText, read_head};
 use std::alloc::Global;
 
@@ -45,7 +45,7 @@ pub(crate) fn begin<S: Source>(
         Ok(head) => head,
         Err(stop) => return Err(stop),
     };
-    match read_start(alloc, text) {
+    match read_lone_head(alloc, text) {
         Ok(head) => Ok(Beginning { head, next }),
         Err(InputFault::At { line, cause }) => Err(HeadStop::Refused { line, cause }),
         Err(InputFault::NoMemory) => Err(HeadStop::NoMemory),

@@ -6,7 +6,7 @@ ghost use Rattle.sim_core.specs.declared.status.Status.{Status as StatusOf};
 ghost use Rattle.sim_core.specs.Answers.{IsEarly, MayAnswer, SaysOf};
 ghost use Rattle.sim_core.specs.Inner.Outcomes.{IsOutcome};
 ghost use Rattle.input_reading.specs.Reading.{most_bytes};
-ghost use Rattle.sim_core.specs.Table.{whole};
+ghost use Rattle.sim_core.specs.Commands.{whole};
 
 use crate::status::Status;
 use cluster_io::{ReadEnd, Sink, Source, read_all, write_text};

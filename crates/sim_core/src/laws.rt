@@ -5,18 +5,18 @@ ghost use Rattle.cluster_types.specs.declared.cluster.Cluster.{Cluster as Cluste
 ghost use Rattle.cluster_types.specs.declared.journal.Journal.{Journal as JournalOf};
 ghost use Rattle.cluster_types.specs.Valid.{IsValid};
 ghost use Rattle.crm_lex.specs.declared.fault.LexCause.{LexCause as LexCauseOf};
-ghost use Rattle.crm_print.specs.Again.{has_short_lines};
+ghost use Rattle.crm_print.specs.PrintedAgain.{has_short_lines};
 ghost use Rattle.input_reading.specs.Reading.{IsFaultyText, IsTextRefused, ReadsInput, most_bytes};
 ghost use Rattle.input_reading.specs.declared.input.cause.InputCause.{InputCause as CauseOf};
 ghost use Rattle.input_reading.specs.declared.input.cause.InputCause.TheVariants.{Words};
 ghost use Rattle.input_reading.specs.declared.input.reading.Input.{Input as InputOf};
-ghost use Rattle.live_run.specs.Coming.{Coming};
-ghost use Rattle.live_run.specs.Ends.{IsDueText};
+ghost use Rattle.live_run.specs.AnswersToCome.{Coming};
+ghost use Rattle.live_run.specs.Ends.{IsDueEnd};
 ghost use Rattle.live_run.specs.declared.line_stop.LineStop.TheVariants.{ReadFault};
 ghost use Rattle.live_run.specs.declared.live_end.LiveEnd.{LiveEnd as LiveEndOf};
-ghost use Rattle.sim_core.specs.Again.{IsReadAgain};
+ghost use Rattle.sim_core.specs.CheckedAgain.{IsReadAgain};
 ghost use Rattle.sim_core.specs.Check.{check_text};
-ghost use Rattle.sim_core.specs.Generated.{IsSummaryText};
+ghost use Rattle.sim_core.specs.GenSummary.{IsSummaryText};
 ghost use Rattle.sim_core.specs.Headline.{IsSafeOutput};
 ghost use Rattle.sim_core.specs.Replay.{IsReplayOutput};
 ghost use Rattle.sim_core.specs.LineByLine.{ComesLineByLine, HasPlainRest, HasRefusedLine, IsRefusedByLine};
@@ -41,7 +41,7 @@ pub fn what_replay_writes_is_one_safe_run()
 /// The run of a valid cluster gets an end and a text, from any journal on and over whatever is to come of result lines, as long as that doesn't say that their
 /// source has failed.
 pub fn there_is_an_end()
-    ensures { (c : ClusterOf) (journal : JournalOf) (coming : Coming) → IsValid c → coming.stop ≢ Some ReadFault → (how : LiveEndOf) × IsDueText c journal coming how }
+    ensures { (c : ClusterOf) (journal : JournalOf) (coming : Coming) → IsValid c → coming.stop ≢ Some ReadFault → (how : LiveEndOf) × IsDueEnd c journal coming how }
 {}
 
 /// What `world` writes is the run of a simulated cluster that is safe all the way, whatever the cluster answers; its lines are safe by themselves, and at each

@@ -23,7 +23,7 @@ mod audit_word;
 mod beginning;
 mod check;
 mod counts;
-mod generated;
+mod gen_summary;
 mod graph;
 mod help;
 mod input_word;

@@ -7,12 +7,12 @@ ghost use Rattle.cluster_types.specs.Journals.{moment_of};
 ghost use Rattle.cluster_types.specs.Safety.{IsAtRest};
 ghost use Rattle.cluster_types.specs.Valid.{IsValid};
 ghost use Rattle.live_run.specs.Heads.{CanGoOn};
-ghost use Rattle.live_run.specs.Reached.{Reaches};
+ghost use Rattle.live_run.specs.RunReached.{Reaches};
 ghost use Rattle.sim_core.specs.Answers.{MayAnswer};
-ghost use Rattle.sim_core.specs.Live.{SaysLive};
+ghost use Rattle.sim_core.specs.LiveAnswers.{SaysLive};
 ghost use Rattle.sim_core.specs.Inner.LiveSteps.{StopsBy, WritesFault, status_of};
 ghost use Rattle.sim_core.specs.Replay.{IsReplayOutput};
-ghost use Rattle.sim_core.specs.Table.{live};
+ghost use Rattle.sim_core.specs.Commands.{live};
 
 use crate::beginning::{Beginning, begin};
 use crate::status::Status;

@@ -4,7 +4,7 @@ ghost use Rattle.std.specs.Prelude.{◌≡◌, ℕ, false, Option, List};
 ghost use Rattle.cluster_io.specs.Streams.{Bears};
 ghost use Rattle.sim_core.specs.Answers.{MayAnswer, SaysOf};
 ghost use Rattle.sim_core.specs.OwnText.{IsOwnText};
-ghost use Rattle.sim_core.specs.Table.{nothing};
+ghost use Rattle.sim_core.specs.Commands.{nothing};
 
 use crate::status::Status;
 use cluster_io::{Sink, write_text};

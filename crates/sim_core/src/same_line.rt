@@ -2,7 +2,7 @@
 
 ghost use Rattle.std.specs.Prelude.{◌≡◌, ◌↔◌, IsTrue};
 ghost use Rattle.cluster_types.specs.declared.run.RunLine.TheVariants as line;
-ghost use Rattle.sim_core.specs.Lawful.{clause_of};
+ghost use Rattle.sim_core.specs.LawfulRuns.{clause_of};
 ghost use Rattle.trace_text.specs.RunLines.{lent_line};
 
 use crate::verdict::Clause;

@@ -4,13 +4,13 @@ ghost use Rattle.cluster_io.specs.Streams.{Bears, Rose, TakesCount};
 ghost use Rattle.sim_core.specs.Answers.{WordAnswers, IsCompleteAnswer, IsEarly, IsStatusOf, ReadsLive, ReadsNothing, ReadsSomething, ReadsWhole, reads_some};
 ghost use Rattle.input_reading.specs.Reading.{most_bytes};
 ghost use Rattle.sim_core.specs.Headline.{WritesASafeRun};
-ghost use Rattle.sim_core.specs.Table.{intake, nothing, whole};
+ghost use Rattle.sim_core.specs.Commands.{intake, nothing, whole};
 ghost use Rattle.sim_core.specs.Words.{command_of};
 
 use crate::audit_word::AuditWord;
 use crate::check::CheckWord;
 use crate::faulty_runs_are_not_lawful;
-use crate::generated::with_case;
+use crate::gen_summary::with_case;
 use crate::graph::GraphWord;
 use crate::help::{HELP, VERSION};
 use crate::input_word::with_input;

@@ -12,23 +12,23 @@ use Rattle.cluster_types.specs.declared.journal.Answer.{Answer}
 use Rattle.cluster_types.specs.declared.journal.Answer.TheVariants as answer
 use Rattle.cluster_types.specs.declared.journal.Event.{Event}
 use Rattle.cluster_types.specs.declared.journal.Event.TheVariants.{Begin}
-use Rattle.cluster_types.specs.Answering.{added_by, applies_after}
+use Rattle.cluster_types.specs.AnswersThatApply.{added_by, applies_after}
 use Rattle.cluster_types.specs.Journals.{AreInFlightByNumber}
 use Rattle.cluster_types.specs.Steps.{is_from_outside}
 use Rattle.graph_exec.specs.Flights.{InFlightOf, paired, pairs_in_flight}
-use Rattle.graph_exec.specs.Saying.{AgreesOn, AgreesSilent}
+use Rattle.graph_exec.specs.SourceDuties.{AgreesOn, AgreesSilent}
 use Rattle.listed.specs.Sets.{members}
 use Rattle.simulated.specs.declared.turn.Fate.{Fate}
 use Rattle.simulated.specs.declared.turn.Turn.{Turn}
 use Rattle.simulated.specs.declared.turn.Turn.TheVariants as turn
-use Rattle.simulated.specs.Kept.{IsOfSame, RealityOf, ShowsWorld}
-use Rattle.simulated.specs.Lives.{IsWorldWithin, Lives, begins_here, starts, leaves, joins, ends}
+use Rattle.simulated.specs.KeptReality.{IsOfSame, RealityOf, ShowsWorld}
+use Rattle.simulated.specs.Lives.{IsWorldWithin, Lives, at_first, an_action_begins, leaves, joins, ends}
 use Rattle.simulated.specs.Turns.{after_begin, after_end, after_joining, after_leaving, answer_by_fate, is_fault, turn_of, turned}
 use Rattle.simulated.specs.RealWorlds.{World, first_world, is_cell}
 use Rattle.simulated.proofs.Applying.{ends_apply, joins_apply, leaves_apply}
 use Rattle.simulated.proofs.Counting.{AreNumbers, none_ended, one_joined, one_left}
 use Rattle.simulated.proofs.Within.{always}
-use Rattle.simulated.specs.Moments.{RunsWithin}
+use Rattle.simulated.specs.RunsWithin.{RunsWithin}
 use Rattle.simulated.specs.Worlds.{Agrees, IsOfOne, WorldOf}
 
 -- each action in flight has a number
@@ -80,7 +80,7 @@ shown_within k c es taken w a shown =
 -- at first it agrees with the journal with which it began
 pub first_agrees : (k : WorldOf) (c : Cluster) (es : List Event) → k.reality.cluster ≡ c → length es ≡ k.since → ShowsWorld k.reality (first_world c es) → Agrees k c es 0
 first_agrees k c es of since shows =
-    record { of_cluster = of; first = es; began = since; world = first_world c es; lives = begins_here; shows = shows; few = omega arith }
+    record { of_cluster = of; first = es; began = since; world = first_world c es; lives = at_first; shows = shows; few = omega arith }
 
 -- nothing comes while nothing is in flight, however often it was asked
 abbrev counted : WorldOf → ℕ → ℕ → WorldOf
@@ -109,7 +109,7 @@ module _ (k : WorldOf) (c : Cluster) (es : List Event) (taken : ℕ) (a : Agrees
   pub begun_agrees : (number : ℕ) (action : Action) → ((w : World) → ShowsWorld k.reality w → ShowsWorld new.reality (after_begin k.reality.cluster w action))
       → Agrees new c (es ++ Begin number action ∷ []) taken
   begun_agrees number action shows =
-      goes_to (es ++ Begin number action ∷ []) taken (after_begin c a.world action) (starts es a.world number action a.lives)
+      goes_to (es ++ Begin number action ∷ []) taken (after_begin c a.world action) (an_action_begins es a.world number action a.lives)
       (subst (λ d. ShowsWorld new.reality (after_begin d a.world action)) a.of_cluster (shows a.world a.shows)) a.few
 
   -- what comes next, with these actions in flight

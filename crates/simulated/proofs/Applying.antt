@@ -15,7 +15,7 @@ use Rattle.std.proofs.lemmas.Bool.Decides.{nat_tests}
 use Rattle.std.proofs.Math.Bool.{or-true}
 use Rattle.cluster_types.specs.declared.journal.Action.{Action}
 use Rattle.cluster_types.specs.declared.journal.Event.{Event}
-use Rattle.cluster_types.specs.Answering.{applies_after, is_joined_sign, is_number_of, is_offline_state}
+use Rattle.cluster_types.specs.AnswersThatApply.{applies_after, is_joined_sign, is_number_of, is_offline_state}
 use Rattle.cluster_types.specs.May.{may_be_running}
 use Rattle.cluster_types.specs.Precedence.{CellOf, op_cell}
 use Rattle.cluster_types.specs.Fields.{copies}

@@ -10,7 +10,7 @@ use Rattle.cluster_types.specs.declared.journal.Event.{Event}
 use Rattle.cluster_types.specs.declared.journal.Event.TheVariants.{Ended, Lost}
 use Rattle.cluster_types.specs.declared.journal.Outcome.{Outcome}
 use Rattle.cluster_types.specs.declared.journal.Outcome.TheVariants.{Code, TimedOut, Gone}
-use Rattle.cluster_types.specs.Answering.{added_by, end_event}
+use Rattle.cluster_types.specs.AnswersThatApply.{added_by, end_event}
 use Rattle.cluster_types.specs.Journals.{AreInFlightByNumber, is_on, moment_of}
 use Rattle.cluster_types.specs.Steps.{is_from_outside}
 use Rattle.simulated.specs.declared.turn.Fate.{Fate}

@@ -11,7 +11,7 @@ use Rattle.cluster_types.specs.declared.journal.Event.{Event}
 use Rattle.cluster_types.specs.declared.journal.Event.TheVariants.{Up, Lost, Begin}
 use Rattle.cluster_types.specs.declared.journal.Outcome.{Outcome}
 use Rattle.cluster_types.specs.declared.journal.Outcome.TheVariants.{Code, TimedOut, Gone}
-use Rattle.cluster_types.specs.Answering.{added_by, applies_after, end_event, is_in_flight, is_number_of}
+use Rattle.cluster_types.specs.AnswersThatApply.{added_by, applies_after, end_event, is_in_flight, is_number_of}
 use Rattle.cluster_types.specs.Journals.{is_on}
 use Rattle.cluster_types.specs.Safety.{is_gone}
 

@@ -7,7 +7,7 @@ use Rattle.lemmas.proofs.Members.{slice_get_left}
 use Rattle.cluster_types.specs.declared.cluster.Cluster.{Cluster}
 use Rattle.cluster_types.specs.declared.journal.Event.{Event}
 use Rattle.cluster_types.specs.declared.states.NodeState.TheVariants.{Online, Offline, Unclean}
-use Rattle.cluster_types.specs.Answering.{is_joined_sign}
+use Rattle.cluster_types.specs.AnswersThatApply.{is_joined_sign}
 use Rattle.cluster_types.specs.CellStates.{last_outcome}
 use Rattle.cluster_types.specs.Journals.{NodeSign, joined, went_down, was_lost, was_fenced, last_sign}
 use Rattle.cluster_types.specs.May.{may_be_running, may_be_promoted}
@@ -18,7 +18,7 @@ use Rattle.simulated.specs.declared.real.Real.TheVariants as real
 use Rattle.simulated.specs.declared.real.Standing.{Standing}
 use Rattle.simulated.specs.declared.real.Standing.TheVariants as standing
 use Rattle.cases.specs.Draws.{state_after}
-use Rattle.simulated.specs.Kept.{Holds, HoldsNodes, ShowsWorld, reality}
+use Rattle.simulated.specs.KeptReality.{ListsCells, ListsNodes, ShowsWorld, reality}
 use Rattle.simulated.specs.RealWorlds.{Cells, first_real, first_world, is_rising, standing_by}
 use Rattle.simulated.specs.Inner.Firsts.{IsFilled}
 use Rattle.simulated.proofs.Hearing.{place_within}
@@ -48,7 +48,7 @@ module _ (c : Cluster) where
           let earlier : r * length c.nodes + n < length kept = grind (arith, length-append kept (x ∷ [])) in
           slice_get_left kept (x ∷ []) (r * length c.nodes + n) earlier ∙ f.each r n l m earlier
 
-  pub holds-filled : (kept : List Real) (cells : Cells) → length kept ≡ length c.leaves * length c.nodes → IsFilled c kept cells → Holds c kept cells
+  pub holds-filled : (kept : List Real) (cells : Cells) → length kept ≡ length c.leaves * length c.nodes → IsFilled c kept cells → ListsCells c kept cells
   holds-filled kept cells full f = record { each = λ r n l m. f.each r n l m (place_within c (length kept) r n full l m) }
 
   -- how a node stands, by the last that is shown of it
@@ -93,8 +93,8 @@ module _ (c : Cluster) where
   has_joined (Some was_fenced) h = cc
 
 -- how the nodes stand, with one more
-pub nodes-push : (kept : List Standing) (held : ℕ → Standing) (count : ℕ) (x : Standing) → length kept ≡ count → x ≡ held count → HoldsNodes count kept held
-    → HoldsNodes (count + 1) (kept ++ x ∷ []) held
+pub nodes-push : (kept : List Standing) (held : ℕ → Standing) (count : ℕ) (x : Standing) → length kept ≡ count → x ≡ held count → ListsNodes count kept held
+    → ListsNodes (count + 1) (kept ++ x ∷ []) held
 nodes-push kept held count x len is h n low = on (n == count) refl
   where
     on : (last : Bool) → (n == count) ≡ last → slice_get (kept ++ x ∷ []) n ≡ Some (held n)
@@ -121,7 +121,7 @@ never_rising c es r n = on (is_none (last_outcome c r n es)) (may_be_promoted c 
     on false false false e = let no = ap is_rising e in cc
 
 pub first_shows : (c : Cluster) (es : List Event) (nodes : List Standing) (cells : List Real) (number : ℕ)
-    → HoldsNodes (length c.nodes) nodes (λ n. standing_by c (last_sign n es)) → Holds c cells (first_real c es)
+    → ListsNodes (length c.nodes) nodes (λ n. standing_by c (last_sign n es)) → ListsCells c cells (first_real c es)
     → ShowsWorld (reality c nodes cells None number (state_after number 0) 0) (first_world c es)
 first_shows c es nodes cells number n h = record {
   nodes = n;

@@ -18,7 +18,7 @@ use Rattle.simulated.specs.declared.real.Real.{Real}
 use Rattle.simulated.specs.declared.real.Real.TheVariants as real
 use Rattle.simulated.specs.declared.real.Standing.{Standing}
 use Rattle.simulated.specs.Turns.{with_node}
-use Rattle.simulated.specs.Kept.{Holds, HoldsNodes, IsAlone}
+use Rattle.simulated.specs.KeptReality.{ListsCells, ListsNodes, IsAlone}
 use Rattle.simulated.specs.RealWorlds.{Cells, after_op, begun, demoted, done, found_at, is_really_promoted, is_rising, is_there, risen, rising_from, undone, with_changed_cell, without_node}
 
 module _ (c : Cluster) where
@@ -28,12 +28,12 @@ module _ (c : Cluster) where
   place_within kept r n full leaf node = let low = ordered (length c.nodes) r n (length c.leaves) 0 node leaf in omega (arith, low, full)
 
   -- the same cells, said otherwise
-  pub holds_as : (kept : List Real) (one other : Cells) → Holds c kept one → ((r n : ℕ) → r < length c.leaves → n < length c.nodes → one r n ≡ other r n)
-      → Holds c kept other
+  pub holds_as : (kept : List Real) (one other : Cells) → ListsCells c kept one → ((r n : ℕ) → r < length c.leaves → n < length c.nodes → one r n ≡ other r n)
+      → ListsCells c kept other
   holds_as kept one other h same = record { each = λ r n l m. h.each r n l m ∙ ap Some (same r n l m) }
 
-  pub holds_set : (kept : List Real) (leaf node : ℕ) (x : Real) (held : Cells) → length kept ≡ length c.leaves * length c.nodes → leaf < length c.leaves → node < length c.nodes → Holds c kept held
-      → Holds c (set kept (leaf * length c.nodes + node) x) (with_changed_cell leaf node (λ y. x) held)
+  pub holds_set : (kept : List Real) (leaf node : ℕ) (x : Real) (held : Cells) → length kept ≡ length c.leaves * length c.nodes → leaf < length c.leaves → node < length c.nodes → ListsCells c kept held
+      → ListsCells c (set kept (leaf * length c.nodes + node) x) (with_changed_cell leaf node (λ y. x) held)
   holds_set kept leaf node x held full has_leaf has_node h = let at = leaf * length c.nodes + node in record {
     each = λ r n l m.
         let place = r * length c.nodes + n in
@@ -256,8 +256,8 @@ module _ (c : Cluster) (held : Cells) (r n : ℕ) where
   done_rising (MigrateFrom leaf source target) e = e
 
 -- what a list of nodes holds after one was set
-pub holds_node : (kept : List Standing) (node count : ℕ) (x : Standing) (held : ℕ → Standing) → node < length kept → HoldsNodes count kept held
-    → HoldsNodes count (set kept node x) (with_node node x held)
+pub holds_node : (kept : List Standing) (node count : ℕ) (x : Standing) (held : ℕ → Standing) → node < length kept → ListsNodes count kept held
+    → ListsNodes count (set kept node x) (with_node node x held)
 holds_node kept node count x held there h n low =
     let in_old = slice_get_within kept n (held n) (h n low) in
     let in_new : n < length (set kept node x) = omega (arith, in_old, length-set kept node x) in
@@ -268,15 +268,15 @@ holds_node kept node count x held there h n low =
     on in_old true e = rw e refl
     on in_old false e = rw e (sym (slice_get-get_or kept n x in_old) ∙ h n low)
 
-pub holds_no_node : (kept : List Standing) (node count : ℕ) (x : Standing) (held : ℕ → Standing) → length kept ≤ node → HoldsNodes count kept held
-    → HoldsNodes count kept (with_node node x held)
+pub holds_no_node : (kept : List Standing) (node count : ℕ) (x : Standing) (held : ℕ → Standing) → length kept ≤ node → ListsNodes count kept held
+    → ListsNodes count kept (with_node node x held)
 holds_no_node kept node count x held past h n low =
     let in_old = slice_get_within kept n (held n) (h n low) in
     let other : (node == n) ≡ false = grind arith in
     h n low ∙ rw other refl
 
 -- without fencing nothing runs on where a node has left
-pub holds_left : (c : Cluster) (kept : List Real) (held : Cells) (node : ℕ) → c.properties.fencing ≡ false → Holds c kept (without_node node held)
-    → Holds c kept (if c.properties.fencing then held else without_node node held)
+pub holds_left : (c : Cluster) (kept : List Real) (held : Cells) (node : ℕ) → c.properties.fencing ≡ false → ListsCells c kept (without_node node held)
+    → ListsCells c kept (if c.properties.fencing then held else without_node node held)
 holds_left c kept held node off h =
     holds_as c kept (without_node node held) (if c.properties.fencing then held else without_node node held) h (λ r n l m. rw off refl)

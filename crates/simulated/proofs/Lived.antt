@@ -8,13 +8,14 @@ use Rattle.cluster_types.specs.declared.journal.Promotion.{Promotion}
 use Rattle.cluster_types.specs.declared.run.Run.{Run}
 use Rattle.cluster_types.specs.Runs.{RunStanding, due, amid, idle, Runs, IsOver, journal_at}
 use Rattle.cluster_types.specs.Texts.{run_lines}
-use Rattle.graph_exec.specs.Kept.{IsKept, KeepsPlans}
+use Rattle.graph_exec.specs.KeptRuns.{IsKept, KeepsPlans}
 use Rattle.graph_exec.specs.RunEnds.{with_all}
 use Rattle.run_safety.proofs.Along.{journals_grow}
 use Rattle.simulated.specs.Lives.{Lives}
 use Rattle.simulated.specs.Worlds.{Agrees, IsOfOne, WorldOf}
 use Rattle.simulated.proofs.Moments.{grown}
-use Rattle.simulated.specs.WorldTexts.{HasLived, IsAtEnd, more_due, most_transitions, over}
+use Rattle.simulated.specs.WorldTexts.{IsAtEnd, more_due, most_transitions, over}
+use Rattle.simulated.specs.Inner.WorldTexts.{HasLived}
 
 -- two fronts of one list that are as long are the same
 same_front : {X : Type 0} (xs ys a b : List X) → xs ++ a ≡ ys ++ b → length xs ≡ length ys → xs ≡ ys

@@ -13,18 +13,18 @@ use Rattle.cluster_types.specs.declared.journal.Outcome.{Outcome}
 use Rattle.cluster_types.specs.declared.journal.Outcome.TheVariants.{Code, TimedOut, Gone}
 use Rattle.cluster_types.specs.declared.journal.Promotion.{Promotion}
 use Rattle.cluster_types.specs.declared.run.RunLine.{RunLine}
-use Rattle.cluster_types.specs.Answering.{added_by, end_event, is_number_of, monitor_action}
+use Rattle.cluster_types.specs.AnswersThatApply.{added_by, end_event, is_number_of, monitor_action}
 use Rattle.cluster_types.specs.Journals.{is_on, moment_of}
 use Rattle.cluster_types.specs.Runs.{RunStanding, due, RunsOn, plans, goes, completes, aborts, answers, Runs, journal_at}
 use Rattle.cluster_types.specs.Safety.{is_gone}
-use Rattle.cluster_types.specs.Steps.{StepsOn, begins, takes, is_silent, Transition, ended, answer_events, in_flight_by_number, journal, resting, silent_code}
-use Rattle.run_safety.specs.Followed.{IsFront}
+use Rattle.cluster_types.specs.Steps.{StepsOn, begins, takes, is_silent, Transition, ended, answer_events, in_flight_by_number, journal, idling, silent_code}
+use Rattle.run_safety.specs.TwoRuns.{IsFront}
 use Rattle.run_safety.proofs.Along.{along, journals_grow}
-use Rattle.simulated.specs.Lives.{Lives, begins_here, starts, leaves, joins, ends}
+use Rattle.simulated.specs.Lives.{Lives, at_first, an_action_begins, leaves, joins, ends}
 use Rattle.simulated.specs.Turns.{after_begin, after_end, after_joining, after_leaving, answer_by_fate, turned}
 use Rattle.simulated.specs.RealWorlds.{World, first_world}
 use Rattle.simulated.proofs.Within.{always}
-use Rattle.simulated.specs.Moments.{IsLivedWithin}
+use Rattle.simulated.specs.RunsWithin.{IsLivedWithin}
 
 -- the last of some events is the end of an action that is gone with its node
 abbrev ends_gone : List Event → Bool
@@ -112,8 +112,8 @@ module _ (c : Cluster) (number : ℕ) (first : List Event) where
   further es batch f = record { more = f.more ++ batch; joined = ap (λ l. l ++ batch) f.joined ∙ append_assoc first f.more batch }
 
   pub grown : (es : List Event) (w : World) → Lives c number first es w → IsFront first es
-  grown _ _ begins_here = record { more = []; joined = sym (append-nil first) }
-  grown _ _ (starts es w k a life) = further es (Begin k a ∷ []) (grown es w life)
+  grown _ _ at_first = record { more = []; joined = sym (append-nil first) }
+  grown _ _ (an_action_begins es w k a life) = further es (Begin k a ∷ []) (grown es w life)
   grown _ _ (leaves es w flight node life is busy e) = further es (added_by c es flight (answer.Lost node)) (grown es w life)
   grown _ _ (joins es w flight node life is busy e) = further es (added_by c es flight (answer.Up node)) (grown es w life)
   grown _ _ (ends es w flight place f k a life is e at) = further es (added_by c es flight (answer_by_fate c (turned c number w) f k a)) (grown es w life)
@@ -143,14 +143,14 @@ module _ (c : Cluster) (number : ℕ) (first : List Event) where
 
   lived : (es : List Event) (w : World) → Lives c number first es w → (xs more : List Event) → es ≡ xs ++ more → IsFront first xs → IsMoment first xs
       → IsLivedWithin c number first xs
-  lived _ _ begins_here xs more is front moment =
+  lived _ _ at_first xs more is front moment =
       let l : length first ≡ length (xs ++ more) = ap length is in
       let m = length-append xs more in
       let n : length xs ≡ length (first ++ front.more) = ap length front.joined in
       let o = length-append first front.more in
       let none : more ≡ [] = nil_from_length more (omega arith) in
-      found xs (first_world c first) (subst (λ l. Lives c number first l (first_world c first)) (is ∙ (ap (λ m. xs ++ m) none ∙ append-nil xs)) begins_here)
-  lived _ _ (starts es w k a life) xs more is front moment =
+      found xs (first_world c first) (subst (λ l. Lives c number first l (first_world c first)) (is ∙ (ap (λ m. xs ++ m) none ∙ append-nil xs)) at_first)
+  lived _ _ (an_action_begins es w k a life) xs more is front moment =
       back es (Begin k a ∷ []) xs more (after_begin c w a) (grown es w life) (one_batch (Begin k a ∷ []) (omega arith)) moment is (starts es w k a life)
       (λ rest e. lived es w life xs rest e front moment)
   lived _ _ (leaves es w flight node life i busy e) xs more is front moment =
@@ -208,7 +208,7 @@ module _ (first : List Event) where
     keeps _ _ rest _ _ (completes k t since _ ended unaborted) moment = moment
     keeps _ _ rest _ _ (aborts k t since _ ended aborted) moment = moment
     keeps _ _ rest left _ (answers k es _ _ given said applies) moment =
-        let t = resting c es in still es (answer_events t [] given) (answer_here c (journal t []) (in_flight_by_number t []) given) moment
+        let t = idling c es in still es (answer_events t [] given) (answer_here c (journal t []) (in_flight_by_number t []) given) moment
 
     moments : (at : RunStanding) (rest left : Option (List Answer)) (lines : List RunLine) → Runs c promotions whole (due 1 first) rest lines at left
         → IsMoment first (journal_at at)

@@ -12,7 +12,7 @@ use Rattle.cluster_types.specs.declared.run.RunLine.{RunLine}
 use Rattle.cluster_types.specs.Journals.{in_flight_by_begin}
 use Rattle.cluster_types.specs.Plans.{transition_of}
 use Rattle.cluster_types.specs.Runs.{RunStanding, due, amid, idle, RunsOn, plans, answers, Runs, here, one_more, IsBetween, journal_at}
-use Rattle.cluster_types.specs.Steps.{answer_events, resting}
+use Rattle.cluster_types.specs.Steps.{answer_events, idling}
 use Rattle.cluster_types.specs.Texts.{run_line, run_lines}
 use Rattle.run_safety.proofs.Along.{journals_grow}
 use Rattle.run_safety.proofs.PlansAreOne.{plans_one}
@@ -52,7 +52,7 @@ module _ (c : Cluster) (promotions : List Promotion) (number : ℕ) (first : Lis
       → LivesOn c number (journal_at at) w (journal_at later) last → R
   no_more _ _ later rest _ left _ more w last _ come (over _ _) (answers k es _ middle given said applies) runs end life =
       no_answer c number es (journal_at later) w last given (rests (idle k es) rest come tt) applies
-      (journals_grow c promotions true (due (k + 1) (es ++ answer_events (resting c es) [] given)) later middle left more runs) life
+      (journals_grow c promotions true (due (k + 1) (es ++ answer_events (idling c es) [] given)) later middle left more runs) life
   no_more _ _ later rest _ left _ more w last _ come (more_due es) (plans _ _ _ placed actions plan) runs end life =
       let counted = runs_counted c promotions true (amid (most_transitions + 1) (transition_of c es actions) []) later rest left more runs in
       let few = end.few in

@@ -10,12 +10,12 @@ use Rattle.cluster_types.specs.declared.journal.Answer.{Answer}
 use Rattle.cluster_types.specs.declared.journal.Answer.TheVariants as answer
 use Rattle.cluster_types.specs.declared.journal.Event.{Event}
 use Rattle.cluster_types.specs.declared.journal.Event.TheVariants.{Begin}
-use Rattle.cluster_types.specs.Answering.{added_by}
+use Rattle.cluster_types.specs.AnswersThatApply.{added_by}
 use Rattle.cluster_types.specs.Journals.{AreInFlightByNumber, in_flight_by_begin}
-use Rattle.run_safety.specs.Followed.{IsFront}
+use Rattle.run_safety.specs.TwoRuns.{IsFront}
 use Rattle.simulated.specs.declared.turn.Turn.{Turn}
 use Rattle.simulated.specs.declared.turn.Turn.TheVariants as turn
-use Rattle.simulated.specs.Lives.{Lives, begins_here, starts, leaves, joins, ends}
+use Rattle.simulated.specs.Lives.{Lives, at_first, an_action_begins, leaves, joins, ends}
 use Rattle.simulated.specs.Turns.{after_begin, after_end, after_joining, after_leaving, answer_by_fate, turn_of, turned}
 use Rattle.simulated.specs.RealWorlds.{World, first_world}
 use Rattle.simulated.proofs.Applying.{ends_apply}
@@ -117,8 +117,8 @@ module _ (c : Cluster) (number : ℕ) where
         (turn_comes flight given is busy (ap (answer_by c number w flight) e ∙ said)))
 
     pub from_first : (es : List Event) (w : World) → Lives c number first es w → LivesOn c number first (first_world c first) es w
-    from_first _ _ begins_here = no_step first (first_world c first)
-    from_first _ _ (starts es w k a life) =
+    from_first _ _ at_first = no_step first (first_world c first)
+    from_first _ _ (an_action_begins es w k a life) =
         more_steps first es (Begin k a ∷ []) (first_world c first) w (after_begin c w a) (from_first es w life) (action_begins k a)
     from_first _ _ (leaves es w flight node life is busy e) =
         turned_so es w (after_leaving c (turned c number w) node) flight (turn.Leaves node) (answer.Lost node) (from_first es w life) is busy e refl refl

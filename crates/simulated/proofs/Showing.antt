@@ -7,8 +7,9 @@ use Rattle.simulated.specs.declared.real.Real.TheVariants as real
 use Rattle.simulated.specs.declared.real.Standing.{Standing}
 use Rattle.cases.specs.Draws.{draw, next_state, state_after, taken_of}
 use Rattle.cases.proofs.DrawLaws.{state_more}
-use Rattle.simulated.specs.Kept.{Holds, HoldsNodes, IsAlone, RealityOf, ShowsWorld, reality}
-use Rattle.simulated.specs.Turns.{after_begin, calm, with_draws}
+use Rattle.simulated.specs.KeptReality.{ListsCells, ListsNodes, IsAlone, RealityOf, ShowsWorld, reality}
+use Rattle.simulated.specs.Turns.{after_begin}
+use Rattle.simulated.specs.Inner.Turns.{calm, with_draws}
 use Rattle.simulated.specs.RealWorlds.{Cells, World, begun, done, is_rising, risen, undone, without_node}
 use Rattle.simulated.proofs.Holding.{begun_rising, cleared_rising, done_rising, undone_rising}
 
@@ -20,7 +21,7 @@ never_risen real.Promoted e = let no = ap is_rising e in cc
 
 module _ (c : Cluster) (nodes : List Standing) (cells : List Real) (rising : Option (ℕ × ℕ)) (number state faults : ℕ) (w : World)
     (s : ShowsWorld (reality c nodes cells rising number state faults) w) where
-  pub shows_begun : (new : List Real) (a : Action) → ((held : Cells) → Holds c cells held → Holds c new (begun c a held))
+  pub shows_begun : (new : List Real) (a : Action) → ((held : Cells) → ListsCells c cells held → ListsCells c new (begun c a held))
       → ShowsWorld (reality c nodes new rising number state faults) (after_begin c w a)
   shows_begun new a held = record {
     nodes = s.nodes;
@@ -30,7 +31,7 @@ module _ (c : Cluster) (nodes : List Standing) (cells : List Real) (rising : Opt
     faults = s.faults;
   }
 
-  pub shows_calm : (new : List Real) → ((held : Cells) → Holds c cells held → IsAlone c rising held → Holds c new (λ r n. risen (held r n)))
+  pub shows_calm : (new : List Real) → ((held : Cells) → ListsCells c cells held → IsAlone c rising held → ListsCells c new (λ r n. risen (held r n)))
       → ShowsWorld (reality c nodes new None number state faults) (calm w)
   shows_calm new held = record {
     nodes = s.nodes;
@@ -50,8 +51,8 @@ module _ (c : Cluster) (nodes : List Standing) (cells : List Real) (rising : Opt
   drawn_is next bound is = ap (λ x. taken_of x bound) (is ∙ next_is)
 
   -- what is kept changes, and no number is drawn
-  pub shows_changed : (new_nodes : List Standing) (new_cells : List Real) (up : Option (ℕ × ℕ)) (now : ℕ) (v : World) → HoldsNodes (length c.nodes) new_nodes v.nodes
-      → Holds c new_cells v.cells → IsAlone c up v.cells → v.drawn ≡ w.drawn → now ≡ v.faults → ShowsWorld (reality c new_nodes new_cells up number state now) v
+  pub shows_changed : (new_nodes : List Standing) (new_cells : List Real) (up : Option (ℕ × ℕ)) (now : ℕ) (v : World) → ListsNodes (length c.nodes) new_nodes v.nodes
+      → ListsCells c new_cells v.cells → IsAlone c up v.cells → v.drawn ≡ w.drawn → now ≡ v.faults → ShowsWorld (reality c new_nodes new_cells up number state now) v
   shows_changed new_nodes new_cells up now v held_nodes held alone drawn same = record {
     nodes = held_nodes;
     cells = held;

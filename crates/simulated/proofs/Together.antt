@@ -13,16 +13,16 @@ use Rattle.cluster_types.specs.declared.journal.Event.TheVariants.{Begin}
 use Rattle.cluster_types.specs.declared.journal.Promotion.{Promotion}
 use Rattle.cluster_types.specs.declared.run.RunLine.{RunLine}
 use Rattle.cluster_types.specs.declared.run.RunLine.TheVariants as line
-use Rattle.cluster_types.specs.Answering.{added_by, is_number_of}
+use Rattle.cluster_types.specs.AnswersThatApply.{added_by, is_number_of}
 use Rattle.cluster_types.specs.Journals.{in_flight_by_begin}
 use Rattle.cluster_types.specs.Plans.{transition_of}
 use Rattle.cluster_types.specs.Runs.{RunStanding, amid, RunsOn, plans, goes, completes, aborts, answers, IsBetween, journal_at}
-use Rattle.cluster_types.specs.Steps.{Transition, Applies, Begins, StepsOn, begins, takes, is_silent, IsWaiting, answer_events, in_flight_by_number, has_aborted, journal, count_from_outside, resting, silent_code}
+use Rattle.cluster_types.specs.Steps.{Transition, Applies, Begins, StepsOn, begins, takes, is_silent, IsWaiting, answer_events, in_flight_by_number, has_aborted, journal, count_from_outside, idling, silent_code}
 use Rattle.cluster_types.specs.Tables.{targets_of}
 use Rattle.cluster_types.specs.Texts.{event_lines, target_lines}
 use Rattle.run_safety.proofs.InFlight.{among_flying}
 use Rattle.run_safety.proofs.Truths.{refuse}
-use Rattle.run_safety.specs.Followed.{IsFront}
+use Rattle.run_safety.specs.TwoRuns.{IsFront}
 use Rattle.run_safety.specs.OnePlan.{PlansAreOne}
 use Rattle.run_safety.proofs.OneStep.{ended_goes, unsettled}
 use Rattle.run_safety.proofs.OneStep.{step_one as told_step_one}
@@ -82,10 +82,10 @@ module _ (c : Cluster) (number : ℕ) where
       (answer_begins_none t.cluster (journal t since) (in_flight_by_number t since) other) s d
 
   -- while nothing is to be done and nothing is in flight, no answer comes
-  pub no_answer : {R : Type 0} (es later : List Event) (w last : World) (given : Answer) → in_flight_by_begin es ≡ [] → Applies (resting c es) [] given
-      → IsFront (es ++ answer_events (resting c es) [] given) later → LivesOn c number es w later last → R
+  pub no_answer : {R : Type 0} (es later : List Event) (w last : World) (given : Answer) → in_flight_by_begin es ≡ [] → Applies (idling c es) [] given
+      → IsFront (es ++ answer_events (idling c es) [] given) later → LivesOn c number es w later last → R
   no_answer es later w last given none applies grows life =
-      let t = resting c es in
+      let t = idling c es in
       let events = answer_events t [] given in
       let by = lives_by es events grows.more later w last (taken_first t [] given applies) grows.joined life in
       no_turn c number es w events by.next none (answer_begins_none c (journal t []) (in_flight_by_number t []) given) by.step

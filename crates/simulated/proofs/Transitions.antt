@@ -22,7 +22,7 @@ use Rattle.cluster_types.specs.declared.run.RunLine.{RunLine}
 use Rattle.cluster_types.specs.declared.run.RunLine.TheVariants as line
 use Rattle.cluster_types.specs.Runs.{RunStanding, due, amid, idle, RunsOn, plans, goes, completes, aborts, answers, Runs, here, one_more}
 use Rattle.cluster_types.specs.Tables.{targets_of}
-use Rattle.cluster_types.specs.Texts.{all_passed_lines, begin_of, between, end_lines, event_lines, goal_line, lacking_lines, leaf_lines, passed_lines, pin_lines, target_lines}
+use Rattle.cluster_types.specs.Texts.{all_passed_lines, begin_of, between, end_lines, event_lines, goal_lines, lacking_lines, leaf_lines, passed_lines, pin_lines, target_lines}
 
 abbrev is_transition : RunLine → Bool
 is_transition (line.Transition k) = true
@@ -50,7 +50,7 @@ module _ (c : Cluster) where
   pin_none r None = refl
   pin_none r (Some pin) = refl
 
-  goal_none : (r n : ℕ) (goal : Target) → transitions (goal_line c r n goal) ≡ 0
+  goal_none : (r n : ℕ) (goal : Target) → transitions (goal_lines c r n goal) ≡ 0
   goal_none r n target.Nowhere = refl
   goal_none r n target.Started = refl
   goal_none r n target.Promoted = refl
@@ -62,12 +62,12 @@ module _ (c : Cluster) where
   leaf_none : (pins : List (Option Pin)) (goals : ℕ → ℕ → Target) (reasons : List (Option NoReason)) (r : ℕ) → transitions (leaf_lines c pins goals reasons r) ≡ 0
   leaf_none pins goals reasons r =
       let pinned = pin_lines c r (unwrap_or (slice_get pins r) None) in
-      let placed = flat_map (λ n. goal_line c r n (goals r n)) (range_with_len 0 (length c.nodes)) in
+      let placed = flat_map (λ n. goal_lines c r n (goals r n)) (range_with_len 0 (length c.nodes)) in
       let lacking = lacking_lines c r (unwrap_or (slice_get reasons r) None) in
       let all = count-append is_transition (pinned ++ placed) lacking in
       let front = count-append is_transition pinned placed in
       let first = pin_none r (unwrap_or (slice_get pins r) None) in
-      let middle = flat_none (λ n. goal_line c r n (goals r n)) (λ n. goal_none r n (goals r n)) (range_with_len 0 (length c.nodes)) in
+      let middle = flat_none (λ n. goal_lines c r n (goals r n)) (λ n. goal_none r n (goals r n)) (range_with_len 0 (length c.nodes)) in
       let last = lacking_none r (unwrap_or (slice_get reasons r) None) in
       omega arith
 

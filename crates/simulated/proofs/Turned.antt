@@ -8,8 +8,9 @@ use Rattle.simulated.specs.declared.turn.Turn.{Turn}
 use Rattle.simulated.specs.declared.turn.Turn.TheVariants as turn
 use Rattle.cases.specs.Draws.{draw}
 use Rattle.simulated.specs.Inner.NodeTurns.{IsForNode, IsOfNode, draws_for_node, node_turn}
-use Rattle.simulated.specs.Kept.{RealityOf, ShowsWorld}
-use Rattle.simulated.specs.Turns.{HappensBehind, MayCome, action_ends, calm, drawn_by, fate_by, first_number, happening, happens_by, turn_by, turn_of, turned, with_draws}
+use Rattle.simulated.specs.KeptReality.{RealityOf, ShowsWorld}
+use Rattle.simulated.specs.Turns.{HappensBehind, MayCome, action_ends, drawn_by, fate_by, first_number, happening, happens_by, turn_by, turn_of, turned}
+use Rattle.simulated.specs.Inner.Turns.{calm, with_draws}
 use Rattle.simulated.specs.RealWorlds.{World, is_node_off, is_node_up}
 use Rattle.simulated.proofs.NextTurn.{by_tests}
 use Rattle.simulated.proofs.Showing.{redrawn}

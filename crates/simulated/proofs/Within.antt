@@ -14,7 +14,7 @@ use Rattle.cluster_types.specs.declared.journal.Event.{Event}
 use Rattle.cluster_types.specs.declared.journal.Event.TheVariants.{Up, Lost, Begin, Ended}
 use Rattle.cluster_types.specs.declared.journal.Outcome.{Outcome}
 use Rattle.cluster_types.specs.declared.journal.Outcome.TheVariants.{Code, TimedOut, Gone}
-use Rattle.cluster_types.specs.Answering.{added_by, end_event, end_events, is_number_of}
+use Rattle.cluster_types.specs.AnswersThatApply.{added_by, end_event, end_events, is_number_of}
 use Rattle.cluster_types.specs.Cells.{is_same_cell}
 use Rattle.cluster_types.specs.CellStates.{last_outcome}
 use Rattle.cluster_types.specs.Fields.{is_promotable}
@@ -28,7 +28,7 @@ use Rattle.simulated.specs.declared.real.Standing.TheVariants as standing
 use Rattle.simulated.specs.declared.turn.Fate.{Fate}
 use Rattle.simulated.specs.declared.turn.Fate.TheVariants as fate
 use Rattle.simulated.specs.declared.turn.Turn.TheVariants as turn
-use Rattle.simulated.specs.Lives.{IsWorldWithin, Lives, begins_here, starts, leaves, joins, ends}
+use Rattle.simulated.specs.Lives.{IsWorldWithin, Lives, at_first, an_action_begins, leaves, joins, ends}
 use Rattle.simulated.specs.Turns.{after_begin, after_end, after_joining, after_leaving, answer_by_fate, is_fault, nodes_after, turn_of, turned}
 use Rattle.simulated.specs.RealWorlds.{World, begun, first_world, found_at, is_cell, is_really_promoted, is_there, risen, standing_by, true_code, with_changed_cell, without_node}
 use Rattle.simulated.proofs.Quiet.{IsQuiet, failed, gone, late, quiet_closes, quiet_demotes}
@@ -322,8 +322,8 @@ module _ (c : Cluster) where
 
 -- so at every moment
 pub always : (c : Cluster) (number : ℕ) (first es : List Event) (w : World) → Lives c number first es w → IsWorldWithin c es w
-always c number first _ _ begins_here = within_first c first
-always c number first _ _ (starts es w k a life) = within_begun c w es k a (always c number first es w life)
+always c number first _ _ at_first = within_first c first
+always c number first _ _ (an_action_begins es w k a life) = within_begun c w es k a (always c number first es w life)
 always c number first _ _ (leaves es w flight node life is busy e) = within_leaves c number w es flight node (length flight) (always c number first es w life) e
 always c number first _ _ (joins es w flight node life is busy e) = within_joins c number w es node (length flight) (always c number first es w life) e
 always c number first _ _ (ends es w flight place f k a life is e at) =

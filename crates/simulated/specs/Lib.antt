@@ -1,10 +1,10 @@
 pub mod Inner
 pub mod Worlds
 pub mod WorldLaws
-pub mod Moments
+pub mod RunsWithin
 pub mod RealWorlds
 pub mod Turns
 pub mod Lives
-pub mod Kept
+pub mod KeptReality
 pub mod WorldTexts
 pub mod LivesOn

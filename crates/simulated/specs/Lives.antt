@@ -5,7 +5,7 @@ use Rattle.cluster_types.specs.declared.journal.Action.{Action}
 use Rattle.cluster_types.specs.declared.journal.Answer.TheVariants as answer
 use Rattle.cluster_types.specs.declared.journal.Event.{Event}
 use Rattle.cluster_types.specs.declared.journal.Event.TheVariants.{Begin}
-use Rattle.cluster_types.specs.Answering.{added_by}
+use Rattle.cluster_types.specs.AnswersThatApply.{added_by}
 use Rattle.cluster_types.specs.Journals.{AreInFlightByNumber, last_sign}
 use Rattle.cluster_types.specs.declared.leaf.Op.TheVariants as op
 use Rattle.cluster_types.specs.Fields.{copies}
@@ -21,8 +21,8 @@ use Rattle.simulated.specs.RealWorlds.{World, first_world, found_at, is_cell, is
 -- from a first journal on, the simulated cluster of a number makes this journal, and stands so then: each answer that was entered is the one that it
 -- gives there
 pub data Lives (c : Cluster) (number : ℕ) (first : List Event) : List Event → World → Type 0 where
-  begins_here : Lives c number first first (first_world c first)
-  starts : (es : List Event) (w : World) (k : ℕ) (a : Action) → Lives c number first es w
+  at_first : Lives c number first first (first_world c first)
+  an_action_begins : (es : List Event) (w : World) (k : ℕ) (a : Action) → Lives c number first es w
       → Lives c number first (es ++ Begin k a ∷ []) (after_begin c w a)
   leaves : (es : List Event) (w : World) (flight : List (ℕ × Action)) (node : ℕ) → Lives c number first es w → AreInFlightByNumber es flight → 0 < length flight
       → turn_of c number w (length flight) ≡ turn.Leaves node

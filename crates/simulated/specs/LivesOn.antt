@@ -7,7 +7,7 @@ use Rattle.cluster_types.specs.declared.journal.Answer.{Answer}
 use Rattle.cluster_types.specs.declared.journal.Answer.TheVariants as answer
 use Rattle.cluster_types.specs.declared.journal.Event.{Event}
 use Rattle.cluster_types.specs.declared.journal.Event.TheVariants.{Begin}
-use Rattle.cluster_types.specs.Answering.{added_by}
+use Rattle.cluster_types.specs.AnswersThatApply.{added_by}
 use Rattle.cluster_types.specs.Journals.{AreInFlightByNumber}
 use Rattle.simulated.specs.declared.turn.Turn.{Turn}
 use Rattle.simulated.specs.declared.turn.Turn.TheVariants as turn

@@ -43,14 +43,6 @@ fenced (Operation op leaf node interval role) nodes = nodes
 fenced (MigrateTo leaf source target) nodes = nodes
 fenced (MigrateFrom leaf source target) nodes = nodes
 
--- in each cell what comes up has come up
-abbrev pub calm : World → World
-calm w = record { nodes = w.nodes; cells = λ r n. risen (w.cells r n); drawn = w.drawn; faults = w.faults }
-
--- some numbers more were drawn
-abbrev pub with_draws : World → ℕ → World
-with_draws w more = record { nodes = w.nodes; cells = w.cells; drawn = w.drawn + more; faults = w.faults }
-
 -- what happens, before one of the actions in flight is drawn: a node leaves or joins, or an action ends so
 pub data Happening : Type 0 where
   node_leaves : (node : ℕ) → Happening

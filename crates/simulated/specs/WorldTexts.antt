@@ -1,5 +1,5 @@
 -- The text of the run of a simulated cluster, with what really runs at its end (rule of this project).
-use Rattle.std.specs.Prelude.{◌≡◌, ℕ, ◌+◌, ◌≤◌, Bool, true, false, List, [], ◌++◌, codes, length}
+use Rattle.std.specs.Prelude.{◌≡◌, ℕ, ◌+◌, ◌≤◌, Bool, true, false, List, ◌++◌, codes, length, []}
 use Rattle.std.specs.List.{flat_map, range_with_len}
 use Rattle.cluster_types.specs.declared.cluster.Cluster.{Cluster}
 use Rattle.cluster_types.specs.declared.journal.Event.{Event}
@@ -10,9 +10,7 @@ use Rattle.cluster_types.specs.Texts.{leaf_on, run_lines, run_text}
 use Rattle.simulated.specs.declared.real.Real.{Real}
 use Rattle.simulated.specs.declared.real.Real.TheVariants as real
 use Rattle.simulated.specs.RealWorlds.{Cells, World, found_at}
-use Rattle.simulated.specs.Kept.{ShowsWorld}
-use Rattle.simulated.specs.Worlds.{IsWorldRun, WorldOf}
-use Rattle.simulated.specs.declared.living.Lived.{Lived}
+use Rattle.simulated.specs.Worlds.{IsWorldRun}
 
 -- how many transitions are made at most
 abbrev pub most_transitions : ℕ
@@ -45,6 +43,7 @@ pub data IsAtEnd : Bool → RunStanding → Type 0 where
 
 -- the run of the simulated cluster of a number from a journal on, to its end: its transitions, what really runs then, and whether it is over
 module _ (c : Cluster) (journal : Journal) (number : ℕ) where
+  -- the run has come to its end with these lines, and the simulated cluster to this
   pub record IsLived (run : Run) (over : Bool) (w : World) : Type 0 where
     pub at : RunStanding
     pub goes : IsWorldRun c journal.promotions number journal.events (run_lines c run) at w
@@ -58,10 +57,3 @@ module _ (c : Cluster) (journal : Journal) (number : ℕ) where
     pub world : World
     pub lived : IsLived run over world
     pub printed : text ≡ run_text c run ++ (real_lines c world.cells ++ ending over)
-
-  -- what is kept of the simulated cluster at the end of such a run
-  pub record HasLived (kept : WorldOf) (lived : Lived) : Type 0 where
-    pub world : World
-    pub of_cluster : kept.reality.cluster ≡ c
-    pub shows : ShowsWorld kept.reality world
-    pub is : IsLived lived.run lived.over world

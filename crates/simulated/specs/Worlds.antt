@@ -5,7 +5,7 @@ use Rattle.cluster_types.specs.declared.journal.Event.{Event}
 use Rattle.cluster_types.specs.declared.journal.Promotion.{Promotion}
 use Rattle.cluster_types.specs.declared.run.RunLine.{RunLine}
 use Rattle.cluster_types.specs.Runs.{RunStanding, Runs, due, journal_at}
-use Rattle.simulated.specs.Kept.{IsOfSame, RealityOf, ShowsWorld}
+use Rattle.simulated.specs.KeptReality.{IsOfSame, RealityOf, ShowsWorld}
 use Rattle.simulated.specs.Lives.{Lives}
 use Rattle.simulated.specs.RealWorlds.{World}
 

@@ -2,7 +2,7 @@
 
 ghost use Rattle.std.specs.Prelude.{◌≡◌, ◌*◌, if◌then◌else◌, length};
 ghost use Rattle.cluster_types.specs.Valid.{KeepsLimits};
-ghost use Rattle.simulated.specs.Kept.{Holds};
+ghost use Rattle.simulated.specs.KeptReality.{ListsCells};
 ghost use Rattle.cluster_types.specs.Fields.{is_promotable};
 ghost use Rattle.simulated.specs.declared.real.Real.TheVariants as real;
 ghost use Rattle.simulated.specs.RealWorlds as worlds;
@@ -23,8 +23,8 @@ pub fn set_if_found(
     cells: &mut Vec<Real>,
 )
     requires { length cells.old.items ≡ length cluster.now.leaves * length cluster.now.nodes }
-    ensures held { (held : Cells) → Holds cluster.now cells.old.items held
-        → Holds cluster.now cells.new.items (if is_there (worlds.found_at cluster.now held leaf other) then with_changed_cell leaf node (λ x. real) held else held) }
+    ensures held { (held : Cells) → ListsCells cluster.now cells.old.items held
+        → ListsCells cluster.now cells.new.items (if is_there (worlds.found_at cluster.now held leaf other) then with_changed_cell leaf node (λ x. real) held else held) }
     ensures len { length cells.new.items ≡ length cells.old.items }
 {
     if found_at(cluster, leaf, other, cells.as_slice()).is_there() {
@@ -35,7 +35,7 @@ pub fn set_if_found(
 /// An action begins. Once a migration is sent, its leaf runs on the target too, if it is there on the source.
 pub fn begin(cluster: &Cluster, action: Action, cells: &mut Vec<Real>)
     requires { length cells.old.items ≡ length cluster.now.leaves * length cluster.now.nodes }
-    ensures held { (held : Cells) → Holds cluster.now cells.old.items held → Holds cluster.now cells.new.items (begun cluster.now action held) }
+    ensures held { (held : Cells) → ListsCells cluster.now cells.old.items held → ListsCells cluster.now cells.new.items (begun cluster.now action held) }
     ensures len { length cells.new.items ≡ length cells.old.items }
 {
     match action {
@@ -54,7 +54,7 @@ pub fn begin(cluster: &Cluster, action: Action, cells: &mut Vec<Real>)
 /// A promoted cell is only started from now on.
 fn demote(cluster: &Cluster, leaf: LeafId, node: NodeId, cells: &mut Vec<Real>)
     requires { length cells.old.items ≡ length cluster.now.leaves * length cluster.now.nodes }
-    ensures held { (held : Cells) → Holds cluster.now cells.old.items held → Holds cluster.now cells.new.items (with_changed_cell leaf node demoted held) }
+    ensures held { (held : Cells) → ListsCells cluster.now cells.old.items held → ListsCells cluster.now cells.new.items (with_changed_cell leaf node demoted held) }
     ensures len { length cells.new.items ≡ length cells.old.items }
 {
     if found_at(cluster, leaf, node, cells.as_slice()).is_promoted() {
@@ -76,8 +76,8 @@ fn promoted(cluster: &Cluster, leaf: LeafId) -> Real
 /// An operation of a leaf on a node is done.
 fn do_op(cluster: &Cluster, op: Op, leaf: LeafId, node: NodeId, cells: &mut Vec<Real>)
     requires { length cells.old.items ≡ length cluster.now.leaves * length cluster.now.nodes }
-    ensures held { (held : Cells) → Holds cluster.now cells.old.items held
-        → Holds cluster.now cells.new.items (with_changed_cell leaf node (after_op cluster.now op leaf) held) }
+    ensures held { (held : Cells) → ListsCells cluster.now cells.old.items held
+        → ListsCells cluster.now cells.new.items (with_changed_cell leaf node (after_op cluster.now op leaf) held) }
     ensures len { length cells.new.items ≡ length cells.old.items }
 {
     match op {
@@ -93,7 +93,7 @@ fn do_op(cluster: &Cluster, op: Op, leaf: LeafId, node: NodeId, cells: &mut Vec<
 pub fn act(cluster: &Cluster, action: Action, cells: &mut Vec<Real>)
     requires limits { KeepsLimits cluster.now }
     requires full { length cells.old.items ≡ length cluster.now.leaves * length cluster.now.nodes }
-    ensures held { (held : Cells) → Holds cluster.now cells.old.items held → Holds cluster.now cells.new.items (done cluster.now action held) }
+    ensures held { (held : Cells) → ListsCells cluster.now cells.old.items held → ListsCells cluster.now cells.new.items (done cluster.now action held) }
     ensures len { length cells.new.items ≡ length cells.old.items }
 {
     match action {
@@ -111,7 +111,7 @@ pub fn act(cluster: &Cluster, action: Action, cells: &mut Vec<Real>)
 /// An action isn't done. A leaf that was to be sent stops on its target, if it is there on its source.
 pub fn undo(cluster: &Cluster, action: Action, cells: &mut Vec<Real>)
     requires { length cells.old.items ≡ length cluster.now.leaves * length cluster.now.nodes }
-    ensures held { (held : Cells) → Holds cluster.now cells.old.items held → Holds cluster.now cells.new.items (undone cluster.now action held) }
+    ensures held { (held : Cells) → ListsCells cluster.now cells.old.items held → ListsCells cluster.now cells.new.items (undone cluster.now action held) }
     ensures len { length cells.new.items ≡ length cells.old.items }
 {
     match action {
@@ -141,7 +141,7 @@ fn looked(real: Real) -> u8
 /// The exit code with which the action ends when it does what it is for.
 pub fn true_code(cluster: &Cluster, action: Action, cells: &[Real]) -> u8
     requires { length cells.now ≡ length cluster.now.leaves * length cluster.now.nodes }
-    ensures { (held : Cells) → Holds cluster.now cells.now held → result ≡ worlds.true_code cluster.now action held }
+    ensures { (held : Cells) → ListsCells cluster.now cells.now held → result ≡ worlds.true_code cluster.now action held }
 {
     match action {
         Action::Probe { leaf, node } => looked(found_at(cluster, leaf, node, cells)),

@@ -3,7 +3,7 @@
 ghost use Rattle.std.specs.Prelude.{◌≡◌, ◌*◌, length};
 ghost use Rattle.cluster_types.specs.Valid.{KeepsLimits};
 ghost use Rattle.simulated.specs.declared.real.Real.TheVariants as real;
-ghost use Rattle.simulated.specs.Kept.{Holds};
+ghost use Rattle.simulated.specs.KeptReality.{ListsCells};
 ghost use Rattle.simulated.specs.RealWorlds.{Cells, found_at, with_changed_cell, without_node};
 
 use crate::real::Real;
@@ -12,7 +12,7 @@ use cluster_types::{Cluster, LeafId, NodeId, cell_place};
 /// What is found in a cell; in one that the cluster doesn't have, nothing.
 pub fn found_at(cluster: &Cluster, leaf: LeafId, node: NodeId, cells: &[Real]) -> Real
     requires { length cells.now ≡ length cluster.now.leaves * length cluster.now.nodes }
-    ensures { (held : Cells) → Holds cluster.now cells.now held → result ≡ found_at cluster.now held leaf node }
+    ensures { (held : Cells) → ListsCells cluster.now cells.now held → result ≡ found_at cluster.now held leaf node }
 {
     let nodes = cluster.nodes.len();
     if (leaf as usize) < cluster.leaves.len() && (node as usize) < nodes {
@@ -25,7 +25,7 @@ pub fn found_at(cluster: &Cluster, leaf: LeafId, node: NodeId, cells: &[Real]) -
 /// From now on this is in the cell, if there is such a cell.
 pub fn set_cell(cluster: &Cluster, leaf: LeafId, node: NodeId, real: Real, cells: &mut Vec<Real>)
     requires { length cells.old.items ≡ length cluster.now.leaves * length cluster.now.nodes }
-    ensures held { (held : Cells) → Holds cluster.now cells.old.items held → Holds cluster.now cells.new.items (with_changed_cell leaf node (λ x. real) held) }
+    ensures held { (held : Cells) → ListsCells cluster.now cells.old.items held → ListsCells cluster.now cells.new.items (with_changed_cell leaf node (λ x. real) held) }
     ensures len { length cells.new.items ≡ length cells.old.items }
 {
     let nodes = cluster.nodes.len();
@@ -39,7 +39,7 @@ pub fn set_cell(cluster: &Cluster, leaf: LeafId, node: NodeId, real: Real, cells
 pub fn clear_node(cluster: &Cluster, node: NodeId, cells: &mut Vec<Real>)
     requires limits { KeepsLimits cluster.now }
     requires full { length cells.old.items ≡ length cluster.now.leaves * length cluster.now.nodes }
-    ensures held { (held : Cells) → Holds cluster.now cells.old.items held → Holds cluster.now cells.new.items (without_node node held) }
+    ensures held { (held : Cells) → ListsCells cluster.now cells.old.items held → ListsCells cluster.now cells.new.items (without_node node held) }
     ensures len { length cells.new.items ≡ length cells.old.items }
 {
     for leaf in 0..cluster.leaves.len() {

@@ -4,7 +4,7 @@ ghost use Rattle.std.specs.Prelude.{◌≡◌, ◌*◌, ◌<◌, if◌then◌els
 ghost use Rattle.cluster_types.specs.declared.journal.Answer.TheVariants as answer;
 ghost use Rattle.cluster_types.specs.Valid.{KeepsLimits};
 ghost use Rattle.simulated.specs.declared.turn.Fate.TheVariants as fate;
-ghost use Rattle.simulated.specs.Kept.{Holds, IsOfSame, ShowsWorld};
+ghost use Rattle.simulated.specs.KeptReality.{ListsCells, IsOfSame, ShowsWorld};
 ghost use Rattle.simulated.specs.Turns.{after_end, after_joining, after_leaving, answer_by_fate, is_fault};
 ghost use Rattle.simulated.specs.RealWorlds.{Cells, World, without_node};
 
@@ -22,8 +22,8 @@ use cluster_types::{Action, Answer, Cluster, NodeId};
 fn leave_cells(cluster: &Cluster, node: NodeId, cells: &mut Vec<Real>)
     requires limits { KeepsLimits cluster.now }
     requires full { length cells.old.items ≡ length cluster.now.leaves * length cluster.now.nodes }
-    ensures held { (held : Cells) → Holds cluster.now cells.old.items held
-        → Holds cluster.now cells.new.items (if cluster.now.properties.fencing then held else without_node node held) }
+    ensures held { (held : Cells) → ListsCells cluster.now cells.old.items held
+        → ListsCells cluster.now cells.new.items (if cluster.now.properties.fencing then held else without_node node held) }
     ensures len { length cells.new.items ≡ length cells.old.items }
 {
     if !cluster.properties.fencing {

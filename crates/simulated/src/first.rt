@@ -5,9 +5,9 @@ ghost use Rattle.cluster_types.specs.CellStates.{last_outcome};
 ghost use Rattle.cluster_types.specs.declared.journal.Event.{Event as EventOf};
 ghost use Rattle.cluster_types.specs.Journals.{last_sign, moment_of};
 ghost use Rattle.cluster_types.specs.Valid.{KeepsLimits};
-ghost use Rattle.state_unpack.specs.CellsKept.{has_few_monitors};
+ghost use Rattle.state_unpack.specs.Knowledge.{has_few_monitors};
 ghost use Rattle.state_unpack.specs.Known.{Knows};
-ghost use Rattle.simulated.specs.Kept.{Holds, HoldsNodes, ShowsWorld};
+ghost use Rattle.simulated.specs.KeptReality.{ListsCells, ListsNodes, ShowsWorld};
 ghost use Rattle.simulated.specs.RealWorlds as worlds;
 ghost use Rattle.simulated.specs.Inner.Firsts.{HearsOutcomes, IsFilled};
 
@@ -53,7 +53,7 @@ fn first_nodes(alloc: Global, known: &Known<'_>) -> Result<Vec<Standing>, AllocE
     requires { KeepsLimits known.now.cluster }
     ensures len { IfOk result (λ nodes. length nodes.items ≡ length known.now.cluster.nodes) }
     ensures held { (es : List EventOf) → Knows known.now.cluster es known.now → IfOk result (λ nodes.
-        HoldsNodes (length known.now.cluster.nodes) nodes.items (λ n. worlds.standing_by known.now.cluster (last_sign n es))) }
+        ListsNodes (length known.now.cluster.nodes) nodes.items (λ n. worlds.standing_by known.now.cluster (last_sign n es))) }
 {
     let count = known.cluster().nodes.len();
     let mut nodes = Vec::with_capacity(alloc, count)?;
@@ -101,7 +101,7 @@ fn first_cells(alloc: Global, known: &Known<'_>, heard: &[bool]) -> Result<Vec<R
     requires full { length heard.now ≡ length known.now.cluster.leaves * length known.now.cluster.nodes }
     ensures len { IfOk result (λ cells. length cells.items ≡ length known.now.cluster.leaves * length known.now.cluster.nodes) }
     ensures held { (es : List EventOf) → Knows known.now.cluster es known.now → HearsOutcomes known.now.cluster es heard.now
-        → IfOk result (λ cells. Holds known.now.cluster cells.items (worlds.first_real known.now.cluster es)) }
+        → IfOk result (λ cells. ListsCells known.now.cluster cells.items (worlds.first_real known.now.cluster es)) }
 {
     let count = known.cluster().leaves.len();
     let mut cells = Vec::with_capacity(alloc, heard.len())?;

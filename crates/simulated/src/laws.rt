@@ -9,10 +9,10 @@ ghost use Rattle.cluster_types.specs.Runs.{RunStanding, Runs, amid, due, journal
 ghost use Rattle.cluster_types.specs.Safety.{IsAtRest};
 ghost use Rattle.cluster_types.specs.Steps.{Transition};
 ghost use Rattle.cluster_types.specs.Valid.{IsValid};
-ghost use Rattle.simulated.specs.Kept.{ShowsWorld};
+ghost use Rattle.simulated.specs.KeptReality.{ShowsWorld};
 ghost use Rattle.simulated.specs.Lives.{NoSecondCopyReally};
 ghost use Rattle.simulated.specs.RealWorlds.{World as WorldAt};
-ghost use Rattle.simulated.specs.Moments.{IsLivedWithin, RunsWithin};
+ghost use Rattle.simulated.specs.RunsWithin.{IsLivedWithin, RunsWithin};
 ghost use Rattle.simulated.specs.Worlds.{Agrees, IsWorldRun, WorldOf};
 
 /// What is kept of a simulated cluster that agrees with a journal runs only what may run by it.

@@ -5,7 +5,7 @@ ghost use Rattle.cluster_types.specs.Journals.{moment_of};
 ghost use Rattle.cluster_types.specs.Safety.{IsAtRest};
 ghost use Rattle.cluster_types.specs.Valid.{IsValid};
 ghost use Rattle.simulated.specs.Worlds.{Agrees};
-ghost use Rattle.simulated.specs.WorldTexts.{HasLived};
+ghost use Rattle.simulated.specs.Inner.WorldTexts.{HasLived};
 
 use crate::World;
 use cluster_types::{Cluster, Journal, Run};

@@ -3,7 +3,7 @@
 ghost use Rattle.std.specs.Prelude.{◌≡◌, ℕ, nat_lt, if◌then◌else◌, IfSome, length};
 ghost use Rattle.simulated.specs.declared.real.Standing.{Standing as StandingOf};
 ghost use Rattle.simulated.specs.declared.real.Standing.TheVariants as standing;
-ghost use Rattle.simulated.specs.Kept.{HoldsNodes};
+ghost use Rattle.simulated.specs.KeptReality.{ListsNodes};
 ghost use Rattle.simulated.specs.Inner.NodeTurns.{IsOfNode, node_turn_from};
 ghost use Rattle.simulated.specs.Turns.{fenced, with_node};
 
@@ -13,7 +13,7 @@ use cluster_types::{Action, Cluster, NodeId};
 
 /// The node stands so from now on, if there is such a node.
 pub fn set_node(nodes: &mut Vec<Standing>, node: NodeId, standing: Standing)
-    ensures held { (count : ℕ) (held : ℕ → StandingOf) → HoldsNodes count nodes.old.items held → HoldsNodes count nodes.new.items (with_node node standing held) }
+    ensures held { (count : ℕ) (held : ℕ → StandingOf) → ListsNodes count nodes.old.items held → ListsNodes count nodes.new.items (with_node node standing held) }
     ensures len { length nodes.new.items ≡ length nodes.old.items }
 {
     if (node as usize) < nodes.len() {
@@ -23,7 +23,7 @@ pub fn set_node(nodes: &mut Vec<Standing>, node: NodeId, standing: Standing)
 
 /// A fence is done: the node is off.
 pub fn fence(nodes: &mut Vec<Standing>, action: Action)
-    ensures held { (count : ℕ) (held : ℕ → StandingOf) → HoldsNodes count nodes.old.items held → HoldsNodes count nodes.new.items (fenced action held) }
+    ensures held { (count : ℕ) (held : ℕ → StandingOf) → ListsNodes count nodes.old.items held → ListsNodes count nodes.new.items (fenced action held) }
     ensures len { length nodes.new.items ≡ length nodes.old.items }
 {
     match action {
@@ -48,7 +48,7 @@ pub fn left_behind(cluster: &Cluster) -> Standing
 
 /// What comes of a node that was drawn, by the first number.
 pub fn node_turn(nodes: &[Standing], die: u32, node: NodeId) -> Option<Turn>
-    ensures turn { (held : ℕ → StandingOf) → HoldsNodes (length nodes.now) nodes.now held
+    ensures turn { (held : ℕ → StandingOf) → ListsNodes (length nodes.now) nodes.now held
         → result ≡ node_turn_from die node (nat_lt node (length nodes.now)) (held node) }
     ensures node { IfSome result IsOfNode }
 {

@@ -4,7 +4,7 @@ ghost use Rattle.std.specs.Prelude.{◌≡◌, ◌++◌, codes, length, OnOk};
 ghost use Rattle.std.specs.List.{flat_map, range_with_len};
 ghost use Rattle.cluster_types.specs.Texts as texts;
 ghost use Rattle.cluster_types.specs.Valid.{KeepsLimits};
-ghost use Rattle.simulated.specs.Kept.{ShowsWorld};
+ghost use Rattle.simulated.specs.KeptReality.{ShowsWorld};
 ghost use Rattle.simulated.specs.RealWorlds.{World as WorldAt};
 ghost use Rattle.simulated.specs.WorldTexts as spec;
 

@@ -3,8 +3,9 @@
 ghost use Rattle.std.specs.Prelude.{◌≡◌, ◌*◌, ◌+◌, ◌<◌, None, length};
 ghost use Rattle.cluster_types.specs.Valid.{KeepsLimits};
 ghost use Rattle.cases.specs.Draws as drawing;
-ghost use Rattle.simulated.specs.Kept.{IsOfSame, NoneRises, ShowsWorld, reality};
-ghost use Rattle.simulated.specs.Turns.{after_begin, calm, with_draws};
+ghost use Rattle.simulated.specs.KeptReality.{IsOfSame, NoneRises, ShowsWorld, reality};
+ghost use Rattle.simulated.specs.Turns.{after_begin};
+ghost use Rattle.simulated.specs.Inner.Turns.{calm, with_draws};
 ghost use Rattle.simulated.specs.RealWorlds as worlds;
 ghost use Rattle.simulated.specs.RealWorlds.{World};
 
@@ -33,8 +34,8 @@ pub struct Reality<'c> {
 }
 
 impl<'c> Model for Reality<'c> {
-    ghost use Rattle.simulated.specs.Kept.{RealityOf, reality};
-    ghost use Rattle.simulated.specs.Inner.Kept.{RealityFits};
+    ghost use Rattle.simulated.specs.KeptReality.{RealityOf, reality};
+    ghost use Rattle.simulated.specs.Inner.RealityLists.{RealityFits};
 
     ghost Value = { RealityOf };
 

@@ -1,7 +1,7 @@
 //! Starts that were given up, and come true later.
 
 ghost use Rattle.std.specs.Prelude.{◌≡◌, ◌*◌, None, length};
-ghost use Rattle.simulated.specs.Kept.{Holds, IsAlone};
+ghost use Rattle.simulated.specs.KeptReality.{ListsCells, IsAlone};
 ghost use Rattle.simulated.specs.RealWorlds.{Cells, given_up, given_up_op, risen, rising_from, with_changed_cell};
 
 use crate::acts::set_if_found;
@@ -12,8 +12,8 @@ use cluster_types::{Action, Cluster, LeafId, NodeId, Op};
 /// The one cell that comes up has come up.
 pub fn raise(cluster: &Cluster, rising: Option<(LeafId, NodeId)>, cells: &mut Vec<Real>)
     requires { length cells.old.items ≡ length cluster.now.leaves * length cluster.now.nodes }
-    ensures held { (held : Cells) → Holds cluster.now cells.old.items held → IsAlone cluster.now rising held
-        → Holds cluster.now cells.new.items (λ r n. risen (held r n)) }
+    ensures held { (held : Cells) → ListsCells cluster.now cells.old.items held → IsAlone cluster.now rising held
+        → ListsCells cluster.now cells.new.items (λ r n. risen (held r n)) }
     ensures len { length cells.new.items ≡ length cells.old.items }
 {
     let Some((leaf, node)) = rising else {
@@ -32,8 +32,8 @@ fn let_rise(
     cells: &mut Vec<Real>,
 ) -> Option<(LeafId, NodeId)>
     requires { length cells.old.items ≡ length cluster.now.leaves * length cluster.now.nodes }
-    ensures held { (held : Cells) → Holds cluster.now cells.old.items held → Holds cluster.now cells.new.items (with_changed_cell leaf node rising_from held) }
-    ensures alone { (held : Cells) → Holds cluster.now cells.old.items held → IsAlone cluster.now None held
+    ensures held { (held : Cells) → ListsCells cluster.now cells.old.items held → ListsCells cluster.now cells.new.items (with_changed_cell leaf node rising_from held) }
+    ensures alone { (held : Cells) → ListsCells cluster.now cells.old.items held → IsAlone cluster.now None held
         → IsAlone cluster.now result (with_changed_cell leaf node rising_from held) }
     ensures len { length cells.new.items ≡ length cells.old.items }
 {
@@ -53,8 +53,8 @@ fn give_up_op(
     cells: &mut Vec<Real>,
 ) -> Option<(LeafId, NodeId)>
     requires { length cells.old.items ≡ length cluster.now.leaves * length cluster.now.nodes }
-    ensures held { (held : Cells) → Holds cluster.now cells.old.items held → Holds cluster.now cells.new.items (given_up_op cluster.now op leaf node held) }
-    ensures alone { (held : Cells) → Holds cluster.now cells.old.items held → IsAlone cluster.now None held
+    ensures held { (held : Cells) → ListsCells cluster.now cells.old.items held → ListsCells cluster.now cells.new.items (given_up_op cluster.now op leaf node held) }
+    ensures alone { (held : Cells) → ListsCells cluster.now cells.old.items held → IsAlone cluster.now None held
         → IsAlone cluster.now result (given_up_op cluster.now op leaf node held) }
     ensures len { length cells.new.items ≡ length cells.old.items }
 {
@@ -67,8 +67,8 @@ fn give_up_op(
 /// An action isn't done in time: what a start finds off comes up later, and a migration is undone. The cell that comes up.
 pub fn give_up(cluster: &Cluster, action: Action, cells: &mut Vec<Real>) -> Option<(LeafId, NodeId)>
     requires { length cells.old.items ≡ length cluster.now.leaves * length cluster.now.nodes }
-    ensures held { (held : Cells) → Holds cluster.now cells.old.items held → Holds cluster.now cells.new.items (given_up cluster.now action held) }
-    ensures alone { (held : Cells) → Holds cluster.now cells.old.items held → IsAlone cluster.now None held
+    ensures held { (held : Cells) → ListsCells cluster.now cells.old.items held → ListsCells cluster.now cells.new.items (given_up cluster.now action held) }
+    ensures alone { (held : Cells) → ListsCells cluster.now cells.old.items held → IsAlone cluster.now None held
         → IsAlone cluster.now result (given_up cluster.now action held) }
     ensures len { length cells.new.items ≡ length cells.old.items }
 {

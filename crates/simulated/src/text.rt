@@ -6,7 +6,7 @@ ghost use Rattle.cluster_types.specs.Journals.{moment_of};
 ghost use Rattle.cluster_types.specs.Safety.{IsAtRest};
 ghost use Rattle.cluster_types.specs.Valid.{IsValid, KeepsLimits};
 ghost use Rattle.trace_text.specs.RunLines.{HasShortNames};
-ghost use Rattle.simulated.specs.Kept.{ShowsWorld};
+ghost use Rattle.simulated.specs.KeptReality.{ShowsWorld};
 ghost use Rattle.simulated.specs.RealWorlds.{World as WorldAt};
 ghost use Rattle.simulated.specs.WorldTexts as spec;
 ghost use Rattle.simulated.specs.WorldTexts.{IsLived, IsWorldText};

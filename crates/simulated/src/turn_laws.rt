@@ -5,7 +5,7 @@ ghost use Rattle.cluster_types.specs.declared.cluster.Cluster.{Cluster as Cluste
 ghost use Rattle.cluster_types.specs.declared.journal.Action.{Action as ActionOf};
 ghost use Rattle.cluster_types.specs.declared.journal.Answer.TheVariants as answer;
 ghost use Rattle.cluster_types.specs.declared.journal.Event.{Event as EventOf};
-ghost use Rattle.cluster_types.specs.Answering.{applies_after};
+ghost use Rattle.cluster_types.specs.AnswersThatApply.{applies_after};
 ghost use Rattle.cluster_types.specs.Safety.{NoSecondCopy};
 ghost use Rattle.cluster_types.specs.Journals.{AreInFlightByNumber};
 ghost use Rattle.cluster_types.specs.Steps.{Transition};

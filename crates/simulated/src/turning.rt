@@ -2,11 +2,12 @@
 
 ghost use Rattle.std.specs.Prelude.{◌≡◌, ◌+◌, ◌<◌, None, IfSome, length};
 ghost use Rattle.cases.specs.Draws as drawing;
-ghost use Rattle.simulated.specs.Kept.{IsOfSame, ShowsWorld};
+ghost use Rattle.simulated.specs.KeptReality.{IsOfSame, ShowsWorld};
 ghost use Rattle.simulated.specs.Inner.NodeTurns as node_turns;
 ghost use Rattle.simulated.specs.Inner.NodeTurns.{IsForNode, IsOfNode, draws_for_node};
 ghost use Rattle.simulated.specs.Turns as turns;
-ghost use Rattle.simulated.specs.Turns.{MayCome, first_number, turn_of, turned, with_draws};
+ghost use Rattle.simulated.specs.Turns.{MayCome, first_number, turn_of, turned};
+ghost use Rattle.simulated.specs.Inner.Turns.{with_draws};
 ghost use Rattle.simulated.specs.RealWorlds.{World};
 
 use crate::nodes::node_turn;

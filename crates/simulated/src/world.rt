@@ -3,9 +3,9 @@
 ghost use Rattle.std.specs.Prelude.{◌≡◌, ◌<◌, ◌^◌, true, IfOk, None, length};
 ghost use Rattle.cluster_types.specs.Journals.{moment_of};
 ghost use Rattle.cluster_types.specs.Valid.{KeepsLimits};
-ghost use Rattle.state_unpack.specs.CellsKept.{has_few_monitors};
+ghost use Rattle.state_unpack.specs.Knowledge.{has_few_monitors};
 ghost use Rattle.simulated.specs.Worlds.{Agrees};
-ghost use Rattle.simulated.specs.Kept.{ShowsWorld};
+ghost use Rattle.simulated.specs.KeptReality.{ShowsWorld};
 ghost use Rattle.simulated.specs.RealWorlds.{World as WorldAt, found_at};
 
 use crate::first::first_reality;

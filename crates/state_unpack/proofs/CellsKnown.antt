@@ -13,20 +13,24 @@ use Rattle.cluster_types.specs.declared.leaf.Leaf.{Leaf}
 use Rattle.cluster_types.specs.declared.leaf.Monitor.{Monitor}
 use Rattle.cluster_types.specs.declared.states.NodeState.{NodeState}
 use Rattle.cluster_types.specs.CellStates.{last_outcome, cell_state, is_monitor_running}
-use Rattle.cluster_types.specs.Failures.{failures_in_force, counted, is_forgotten, has_code, fatal_codes, has_somewhere, is_fail_stopped, wants_stop, ended_at}
+use Rattle.cluster_types.specs.Failures.{failures_in_force, counted, is_forgotten, has_code, fatal_codes, has_somewhere, is_fail_stopped, asks_for_stop, ended_at}
 use Rattle.cluster_types.specs.Fields.{failure_timeout, monitors}
 use Rattle.cluster_types.specs.Journals.{NodeSign, joined, went_down, was_lost, was_fenced, moment_of, last_sign}
 use Rattle.cluster_types.specs.NodeStates.{node_state, state_by, is_online_state, is_online_in, is_online, is_to_blame}
-use Rattle.cluster_types.specs.Unpacked.{cell_at}
+use Rattle.cluster_types.specs.UnpackedStates.{cell_at}
 use Rattle.cluster_types.specs.Valid.{IsValid}
-use Rattle.state_unpack.specs.Tally.{tally_of, tally_counted, has_passed}
+use Rattle.state_unpack.specs.Tally.{tally_of}
+use Rattle.state_unpack.specs.Inner.Tally.{tally_counted, has_passed}
 use Rattle.state_unpack.specs.declared.facts.Facts.{Facts}
 use Rattle.state_unpack.specs.declared.signs.Sign.{Sign}
 use Rattle.state_unpack.specs.declared.signs.Sign.TheVariants as sign
-use Rattle.state_unpack.specs.Facts.{facts_of, no_facts}
-use Rattle.state_unpack.specs.Kept.{KeepsFacts, cell_in}
-use Rattle.state_unpack.specs.Signs.{as_sign, ShowsSigns, state_by_sign}
-use Rattle.state_unpack.specs.CellsKept.{bits_of, counted_of, state_from, cell_from, somewhere, is_fatal, is_stopping, is_blamed, node_from, row_from, has_few_monitors}
+use Rattle.state_unpack.specs.Facts.{facts_of}
+use Rattle.state_unpack.specs.Inner.Facts.{no_facts}
+use Rattle.state_unpack.specs.KeptCells.{KeepsFacts, cell_in}
+use Rattle.state_unpack.specs.Signs.{as_sign, ShowsSigns}
+use Rattle.state_unpack.specs.Inner.Signs.{state_by_sign}
+use Rattle.state_unpack.specs.Inner.CellsKept.{bits_of, counted_of, state_from, cell_from, somewhere, is_fatal, is_stopping, is_blamed, node_from, row_from}
+use Rattle.state_unpack.specs.Knowledge.{has_few_monitors}
 
 -- the failures that count, by those in force
 module _ (c : Cluster) (r n : ℕ) (es : List Event) where
@@ -81,7 +85,7 @@ module _ (c : Cluster) (es : List Event) (cells : List Facts) (keeps : KeepsFact
   fatal-is r h = any-same _ _ (length c.nodes) (λ n k. fatal-there r n h k)
 
   stop-there : (r n : ℕ) → r < length c.leaves → n < length c.nodes
-      → option_map_or (λ facts. is_stopping (counted_of c r (moment_of es) facts)) (cell_in c cells r n) false ≡ list_any (wants_stop c) (counted c r n es)
+      → option_map_or (λ facts. is_stopping (counted_of c r (moment_of es) facts)) (cell_in c cells r n) false ≡ list_any (asks_for_stop c) (counted c r n es)
   stop-there r n h k = rw (keeps.told r n h k, counted-is c r n es) refl
 
   pub stops-are : map (λ r. somewhere is_stopping c r (moment_of es) cells) (range_with_len 0 (length c.leaves)) ≡ map (λ r. is_fail_stopped c r es) (range_with_len 0 (length c.leaves))

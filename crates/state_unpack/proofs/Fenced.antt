@@ -9,9 +9,9 @@ use Rattle.cluster_types.specs.declared.journal.Promotion.{Promotion}
 use Rattle.cluster_types.specs.declared.states.States.{States}
 use Rattle.cluster_types.specs.NodeStates.{node_state, is_unclean_state}
 use Rattle.cluster_types.specs.Rights.{may_fence, is_to_be_fenced}
-use Rattle.cluster_types.specs.Unpacked.{states_of}
+use Rattle.cluster_types.specs.UnpackedStates.{states_of}
 use Rattle.cluster_types.proofs.StatesKept.{node_kept, nodes_fit}
-use Rattle.state_unpack.specs.Unclean.{unclean_in}
+use Rattle.state_unpack.specs.Inner.Unclean.{unclean_in}
 
 -- a test that never passes keeps none
 filter-none : (n : ℕ) → filter (λ (i : ℕ). false) (range_with_len 0 n) ≡ []

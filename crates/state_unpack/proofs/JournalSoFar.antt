@@ -6,14 +6,15 @@ use Rattle.cluster_types.specs.declared.journal.Event.{Event}
 use Rattle.cluster_types.specs.declared.journal.Promotion.{Promotion}
 use Rattle.cluster_types.specs.Journals.{last_sign, moment_of, seconds_of}
 use Rattle.cluster_types.specs.NodeStates.{node_state}
-use Rattle.cluster_types.specs.Unpacked.{states_of}
+use Rattle.cluster_types.specs.UnpackedStates.{states_of}
 use Rattle.state_unpack.specs.declared.facts.Facts.{Facts}
 use Rattle.state_unpack.specs.declared.signs.Sign.{Sign}
-use Rattle.state_unpack.specs.CellsKept.{has_few_monitors, is_blamed, node_from, quorum_after, states_from}
-use Rattle.state_unpack.specs.Kept.{TellsEvent}
+use Rattle.state_unpack.specs.Inner.CellsKept.{is_blamed, node_from, quorum_after, states_from}
+use Rattle.state_unpack.specs.Knowledge.{has_few_monitors}
+use Rattle.state_unpack.specs.Inner.ToldCells.{TellsEvent}
 use Rattle.state_unpack.specs.Known.{Knowledge, Knows, knowledge}
 use Rattle.state_unpack.specs.Signs.{ShowsSigns}
-use Rattle.state_unpack.specs.Touching.{touches}
+use Rattle.state_unpack.specs.Inner.Touching.{touches}
 use Rattle.state_unpack.proofs.CellsKnown.{blamed-is, by-sign, cells-are, few-monitors, nodes-are, stops-are}
 use Rattle.state_unpack.proofs.LastSigns.{quorum-more}
 use Rattle.state_unpack.proofs.Told.{keeps-more}

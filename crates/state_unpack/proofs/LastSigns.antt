@@ -10,8 +10,9 @@ use Rattle.cluster_types.specs.declared.journal.Event.TheVariants.{Up, Down, Los
 use Rattle.cluster_types.specs.Journals.{NodeSign, sign_of, last_sign, said_of_quorum, has_quorum}
 use Rattle.lemmas.proofs.Lasts.{last-more}
 use Rattle.state_unpack.specs.declared.signs.Sign.{Sign}
-use Rattle.state_unpack.specs.CellsKept.{quorum_after}
-use Rattle.state_unpack.specs.Signs.{or_else, as_sign, ShowsSigns}
+use Rattle.state_unpack.specs.Inner.CellsKept.{quorum_after}
+use Rattle.state_unpack.specs.Signs.{as_sign, ShowsSigns}
+use Rattle.state_unpack.specs.Inner.Signs.{or_else}
 
 -- it is what this event shows, if it shows something, or the last before
 last-after : (n : ℕ) (es : List Event) (e : Event) (sign : Option NodeSign) → sign_of n e ≡ sign → last_sign n (es ++ e ∷ []) ≡ or_else sign (last_sign n es)

@@ -14,7 +14,8 @@ use Rattle.cluster_types.specs.Fields.{monitors}
 use Rattle.cluster_types.proofs.MayLaws.{may-last, promoted-last}
 use Rattle.lemmas.proofs.Lasts.{after_last-here, after_last-more, last-more}
 use Rattle.state_unpack.proofs.MoreFailures.{outcomes-reset, outcomes-more, in_force-after}
-use Rattle.state_unpack.specs.Facts.{leaves_open, monitor_runs, answers, running_after, facts_of, facts_after}
+use Rattle.state_unpack.specs.Facts.{leaves_open, monitor_runs, facts_of}
+use Rattle.state_unpack.specs.Inner.Facts.{answers, running_after, facts_after}
 
 module _ (c : Cluster) (r n : ℕ) (es : List Event) (e : Event) where
   -- the last outcome in force: none after a reset, this event if it is one, or the one before

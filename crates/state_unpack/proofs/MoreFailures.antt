@@ -9,15 +9,16 @@ use Rattle.lemmas.proofs.Searches.{any-more}
 use Rattle.cluster_types.specs.declared.cluster.Cluster.{Cluster}
 use Rattle.cluster_types.specs.declared.journal.Event.{Event}
 use Rattle.cluster_types.specs.Cells.{is_reset}
-use Rattle.cluster_types.specs.Failures.{since_reset, outcomes, is_outcome, is_failure, failures_in_force, is_start, has_code, hard_codes, fatal_codes, wants_stop}
-use Rattle.cluster_types.specs.NodeStates.{wants_fence}
-use Rattle.state_unpack.specs.Tally.{tally_of, with_failure, tally_after}
+use Rattle.cluster_types.specs.Failures.{since_reset, outcomes, is_outcome, is_failure, failures_in_force, is_start, has_code, hard_codes, fatal_codes, asks_for_stop}
+use Rattle.cluster_types.specs.NodeStates.{asks_for_fence}
+use Rattle.state_unpack.specs.Tally.{tally_of}
+use Rattle.state_unpack.specs.Inner.Tally.{with_failure, tally_after}
 
 tally-more : (c : Cluster) (found : List Event) (e : Event) → tally_of c (found ++ e ∷ []) ≡ with_failure c (tally_of c found) e
 tally-more c found e =
     let size = length-append found (e ∷ []) in
     let count : min (length (found ++ e ∷ [])) 1000000 ≡ min (min (length found) 1000000 + 1) 1000000 = omega (arith, size) in
-    rw (count, any-more is_start found e, any-more (has_code hard_codes) found e, any-more (has_code fatal_codes) found e, any-more (wants_stop c) found e, any-more (wants_fence c) found e, last-more None found e) refl
+    rw (count, any-more is_start found e, any-more (has_code hard_codes) found e, any-more (has_code fatal_codes) found e, any-more (asks_for_stop c) found e, any-more (asks_for_fence c) found e, last-more None found e) refl
 
 module _ (c : Cluster) (r n : ℕ) (es : List Event) (e : Event) where
   -- the outcomes in force

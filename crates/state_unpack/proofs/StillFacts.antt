@@ -8,8 +8,9 @@ use Rattle.cluster_types.specs.declared.leaf.Monitor.{Monitor}
 use Rattle.cluster_types.specs.CellStates.{is_end_of_monitor}
 use Rattle.cluster_types.specs.Fields.{monitors}
 use Rattle.cluster_types.specs.May.{may_be_running, is_left_promoted, opens, closes, opens_promoted, closes_promoted}
-use Rattle.state_unpack.specs.Facts.{facts_of, facts_after, monitor_runs, runs_after, answers}
-use Rattle.state_unpack.specs.Touching.{touches}
+use Rattle.state_unpack.specs.Facts.{facts_of, monitor_runs}
+use Rattle.state_unpack.specs.Inner.Facts.{facts_after, runs_after, answers}
+use Rattle.state_unpack.specs.Inner.Touching.{touches}
 use Rattle.state_unpack.proofs.MoreFacts.{facts-after}
 use Rattle.state_unpack.proofs.Untouched.{no_reset, no_outcome, no_sending, no_end, no_answer, no_opening, no_closing, no_promotion, no_demotion, stays_in}
 

@@ -13,9 +13,11 @@ use Rattle.cluster_types.specs.CellStates.{is_monitor_running}
 use Rattle.cluster_types.specs.Fields.{monitors}
 use Rattle.cluster_types.proofs.TableCells.{ordered, same_place, get-at, same_cell}
 use Rattle.state_unpack.specs.declared.facts.Facts.{Facts}
-use Rattle.state_unpack.specs.Facts.{facts_of, facts_after, no_facts, monitor_runs}
-use Rattle.state_unpack.specs.Kept.{IsFull, cell_in, KeepsFacts, TellsEvent}
-use Rattle.state_unpack.specs.Touching.{touches}
+use Rattle.state_unpack.specs.Facts.{facts_of, monitor_runs}
+use Rattle.state_unpack.specs.Inner.Facts.{facts_after, no_facts}
+use Rattle.state_unpack.specs.KeptCells.{IsFull, cell_in, KeepsFacts}
+use Rattle.state_unpack.specs.Inner.ToldCells.{TellsEvent}
+use Rattle.state_unpack.specs.Inner.Touching.{touches}
 use Rattle.state_unpack.proofs.MoreFacts.{facts-after}
 use Rattle.state_unpack.proofs.StillFacts.{facts-stay}
 

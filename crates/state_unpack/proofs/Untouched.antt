@@ -11,7 +11,7 @@ use Rattle.cluster_types.specs.Cells.{is_same_cell, is_of_cell, is_reset}
 use Rattle.cluster_types.specs.CellStates.{begins_sending_to, changes_cell, ends_monitors, is_end_of_monitor}
 use Rattle.cluster_types.specs.Failures.{is_outcome}
 use Rattle.cluster_types.specs.May.{opens_cell, closes_cell, promotes_cell, demotes_cell, takes_out}
-use Rattle.state_unpack.specs.Touching.{action_touches, touches}
+use Rattle.state_unpack.specs.Inner.Touching.{action_touches, touches}
 
 module _ (r n : ℕ) where
   -- each thing that an event may tell of a cell

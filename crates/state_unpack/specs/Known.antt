@@ -6,8 +6,8 @@ use Rattle.cluster_types.specs.Journals.{has_quorum, moment_of}
 use Rattle.cluster_types.specs.Valid.{KeepsLimits}
 use Rattle.state_unpack.specs.declared.facts.Facts.{Facts}
 use Rattle.state_unpack.specs.declared.signs.Sign.{Sign}
-use Rattle.state_unpack.specs.CellsKept.{has_few_monitors}
-use Rattle.state_unpack.specs.Kept.{IsFull, KeepsFacts}
+use Rattle.state_unpack.specs.Knowledge.{has_few_monitors}
+use Rattle.state_unpack.specs.KeptCells.{IsFull, KeepsFacts}
 use Rattle.state_unpack.specs.Signs.{ShowsSigns}
 
 -- what is kept: of each cell, of each node, whether there is quorum, and the moment

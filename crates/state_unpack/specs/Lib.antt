@@ -1,10 +1,7 @@
-pub mod Operations
+pub mod Inner
 pub mod Facts
-pub mod Touching
-pub mod Kept
+pub mod KeptCells
 pub mod Signs
-pub mod CellsKept
 pub mod Known
-pub mod LeafFields
 pub mod Tally
-pub mod Unclean
+pub mod Knowledge

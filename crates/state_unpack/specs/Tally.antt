@@ -1,14 +1,12 @@
 -- What some failures of a cell come to: how many they are, which kinds are among them, and of which kind and moment the last is (rule of this project).
-use Rattle.std.specs.Prelude.{ℕ, ◌+◌, ◌*◌, ◌&&◌, ◌||◌, Bool, false, if◌then◌else◌, min, nat_lt, int_lt, int_le, ℤ, pos, Option, Some, None, List, length}
+use Rattle.std.specs.Prelude.{false, min, None, List, length}
 use Rattle.std.specs.List.{list_any, last_or}
 use Rattle.std.specs.Option.{option_map, option_map_or}
 use Rattle.cluster_types.specs.declared.cluster.Cluster.{Cluster}
 use Rattle.cluster_types.specs.declared.journal.Event.{Event}
-use Rattle.cluster_types.specs.Cells.{is_reset}
-use Rattle.cluster_types.specs.CellStates.{wants_block}
-use Rattle.cluster_types.specs.Failures.{is_outcome, is_failure, is_start, has_code, hard_codes, fatal_codes, wants_stop, ended_at}
-use Rattle.cluster_types.specs.Fields.{failure_timeout, threshold}
-use Rattle.cluster_types.specs.NodeStates.{wants_fence}
+use Rattle.cluster_types.specs.CellStates.{asks_for_block}
+use Rattle.cluster_types.specs.Failures.{is_start, has_code, hard_codes, fatal_codes, asks_for_stop, ended_at}
+use Rattle.cluster_types.specs.NodeStates.{asks_for_fence}
 use Rattle.state_unpack.specs.declared.tally.Tally.{Tally}
 
 abbrev pub tally_of : Cluster → List Event → Tally
@@ -17,50 +15,8 @@ tally_of c failures = record {
   start = list_any is_start failures;
   hard = list_any (has_code hard_codes) failures;
   fatal = list_any (has_code fatal_codes) failures;
-  stop = list_any (wants_stop c) failures;
-  fence = list_any (wants_fence c) failures;
-  block = option_map_or (wants_block c) (last_or None failures) false;
+  stop = list_any (asks_for_stop c) failures;
+  fence = list_any (asks_for_fence c) failures;
+  block = option_map_or (asks_for_block c) (last_or None failures) false;
   last = option_map ended_at (last_or None failures);
 }
-
--- that of no failure
-abbrev pub no_tally : Tally
-no_tally = record { count = 0; start = false; hard = false; fatal = false; stop = false; fence = false; block = false; last = None }
-
--- that with one more failure
-abbrev pub with_failure : Cluster → Tally → Event → Tally
-with_failure c tally e = record {
-  count = min (tally.count + 1) 1000000;
-  start = tally.start || is_start e;
-  hard = tally.hard || has_code hard_codes e;
-  fatal = tally.fatal || has_code fatal_codes e;
-  stop = tally.stop || wants_stop c e;
-  fence = tally.fence || wants_fence c e;
-  block = wants_block c e;
-  last = Some (ended_at e);
-}
-
--- that of the failures in force of a cell after one more event
-abbrev pub tally_after : Cluster → ℕ → ℕ → Tally → Event → Tally
-tally_after c r n tally e =
-    if is_reset r n e then no_tally else (if is_outcome c r n e && is_failure e then with_failure c tally e else tally)
-
--- more milliseconds than the timeout have passed at a moment since the last one ended; a timeout of 0 never passes
-abbrev pub has_passed : ℕ → ℕ → Option ℕ → Bool
-has_passed timeout now last = nat_lt 0 timeout && option_map_or (λ ended. nat_lt (1000 * ended + timeout) (1000 * now)) last false
-
--- that of those that count, of those in force
-abbrev pub tally_counted : Cluster → ℕ → ℕ → Tally → Tally
-tally_counted c r now tally = if has_passed (failure_timeout c r) now tally.last then no_tally else tally
-
--- the fail count by those that count
-abbrev pub fail_count_of : Cluster → Tally → ℕ
-fail_count_of c tally = if c.properties.start_fatal && tally.start then 1000000 else tally.count
-
--- a fail count reaches a threshold, which is never so at a threshold of 0 or less
-abbrev pub reaches_threshold : ℕ → ℤ → Bool
-reaches_threshold count threshold = int_lt (pos 0) threshold && int_le threshold (pos count)
-
--- they ban the leaf from their node
-abbrev pub bans : Cluster → ℕ → Tally → Bool
-bans c r tally = reaches_threshold (fail_count_of c tally) (threshold c r) || tally.hard

@@ -1,7 +1,7 @@
 //! What is known of a cell, by what is kept of it.
 
 ghost use Rattle.std.specs.Prelude.{◌≡◌, ◌≤◌, if◌then◌else◌};
-ghost use Rattle.state_unpack.specs.CellsKept as spec;
+ghost use Rattle.state_unpack.specs.Inner.CellsKept as spec;
 
 use crate::Tally;
 use crate::facts::Facts;

@@ -4,6 +4,7 @@ ghost use Rattle.std.specs.Prelude.{◌≡◌, ◌&&◌, ◌||◌, if◌then◌e
 ghost use Rattle.cluster_types.specs.CellStates.{begins_sending_to};
 ghost use Rattle.cluster_types.specs.May.{closes, closes_promoted, opens, opens_promoted};
 ghost use Rattle.state_unpack.specs.Facts as spec;
+ghost use Rattle.state_unpack.specs.Inner.Facts as inner;
 
 use crate::opening::{closes, opens};
 use crate::promoting::{closes_promoted, opens_promoted};
@@ -32,7 +33,7 @@ pub struct Facts {
 
 /// Whether the monitor of this index answered.
 fn answers(cluster: &Cluster, leaf: LeafId, node: NodeId, event: Event, index: usize) -> bool
-    ensures { result ≡ spec.answers cluster.now leaf node event index }
+    ensures { result ≡ inner.answers cluster.now leaf node event index }
 {
     match cluster.monitors(leaf).get(index) {
         Some(monitor) => is_end_of_monitor(leaf, node, monitor.interval_ms, event),
@@ -49,7 +50,7 @@ fn runs_after(
     index: usize,
     was_running: bool,
 ) -> bool
-    ensures { result ≡ spec.runs_after cluster.now leaf node event index was_running }
+    ensures { result ≡ inner.runs_after cluster.now leaf node event index was_running }
 {
     !ends_monitors(leaf, node, event) && (was_running || answers(cluster, leaf, node, event, index))
 }
@@ -62,7 +63,7 @@ fn running_after(
     running: [bool; 8],
     event: Event,
 ) -> [bool; 8]
-    ensures { result ≡ spec.running_after cluster.now leaf node running event }
+    ensures { result ≡ inner.running_after cluster.now leaf node running event }
 {
     let mut after = running;
     for index in 0..8 {
@@ -121,7 +122,7 @@ fn left_after(left: bool, is_new: bool, is_outcome: bool, event: Event) -> bool
 impl Facts {
     /// What no event tells.
     pub fn none() -> Facts
-        ensures { result ≡ spec.no_facts }
+        ensures { result ≡ inner.no_facts }
     {
         Facts {
             tally: Tally::none(),
@@ -136,7 +137,7 @@ impl Facts {
 
     /// What is told with one more event.
     pub fn after(self, cluster: &Cluster, leaf: LeafId, node: NodeId, event: Event) -> Facts
-        ensures { result ≡ spec.facts_after cluster.now leaf node self event }
+        ensures { result ≡ inner.facts_after cluster.now leaf node self event }
     {
         let is_new = event.is_reset(leaf, node);
         let is_outcome = is_outcome(cluster, leaf, node, event);

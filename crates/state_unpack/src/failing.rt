@@ -1,9 +1,9 @@
 //! Which events are failures, and of which kind.
 
 ghost use Rattle.std.specs.Prelude.{◌≡◌};
-ghost use Rattle.cluster_types.specs.CellStates.{wants_block};
+ghost use Rattle.cluster_types.specs.CellStates.{asks_for_block};
 ghost use Rattle.cluster_types.specs.Failures as failures;
-ghost use Rattle.cluster_types.specs.NodeStates.{wants_fence};
+ghost use Rattle.cluster_types.specs.NodeStates.{asks_for_fence};
 
 use crate::outcomes::{effective_fail, is_among, is_bad, is_ignored};
 use cluster_types::{Action, Cluster, Event, LeafId, NodeId, OnFail, Op};
@@ -61,9 +61,9 @@ pub fn has_code(codes: &[u8], event: Event) -> bool
 
 /// Whether an action ended whose failure leads to this.
 pub fn wants(what: OnFail, cluster: &Cluster, event: Event) -> bool
-    ensures stop { what ≡ OnFail.Stop → result ≡ failures.wants_stop cluster.now event }
-    ensures fence { what ≡ OnFail.Fence → result ≡ wants_fence cluster.now event }
-    ensures block { what ≡ OnFail.Block → result ≡ wants_block cluster.now event }
+    ensures stop { what ≡ OnFail.Stop → result ≡ failures.asks_for_stop cluster.now event }
+    ensures fence { what ≡ OnFail.Fence → result ≡ asks_for_fence cluster.now event }
+    ensures block { what ≡ OnFail.Block → result ≡ asks_for_block cluster.now event }
 {
     match event {
         Event::Ended { action, .. } => effective_fail(cluster, action) == what,

@@ -6,8 +6,8 @@ ghost use Rattle.cluster_types.specs.declared.journal.Event.{Event as EventOf};
 ghost use Rattle.cluster_types.specs.declared.journal.Promotion.{Promotion as PromotionOf};
 ghost use Rattle.cluster_types.specs.NodeStates.{is_unclean_state};
 ghost use Rattle.cluster_types.specs.Rights.{is_to_be_fenced};
-ghost use Rattle.cluster_types.specs.Unpacked.{states_of};
-ghost use Rattle.state_unpack.specs.Unclean.{unclean_in};
+ghost use Rattle.cluster_types.specs.UnpackedStates.{states_of};
+ghost use Rattle.state_unpack.specs.Inner.Unclean.{unclean_in};
 
 use crate::acting::rights;
 use cluster_types::{Cluster, NoMemory, NodeId, NodeState, States};

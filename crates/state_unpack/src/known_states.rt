@@ -3,13 +3,13 @@
 ghost use Rattle.std.specs.Prelude.{◌≡◌, ◌<◌, ◌+◌, ◌^◌, ◌++◌, ◌∷◌, [], List, IfOk, length, true};
 ghost use Rattle.cluster_types.specs.declared.cluster.Cluster.{Cluster as ClusterOf};
 ghost use Rattle.cluster_types.specs.declared.journal.Event.{Event as EventOf};
-ghost use Rattle.cluster_types.specs.Answering.{is_joined_sign};
+ghost use Rattle.cluster_types.specs.AnswersThatApply.{is_joined_sign};
 ghost use Rattle.cluster_types.specs.Journals as journals;
 ghost use Rattle.cluster_types.specs.May as may;
 ghost use Rattle.cluster_types.specs.NodeStates.{node_state};
-ghost use Rattle.cluster_types.specs.Unpacked.{states_of};
+ghost use Rattle.cluster_types.specs.UnpackedStates.{states_of};
 ghost use Rattle.cluster_types.specs.Valid.{KeepsLimits};
-ghost use Rattle.state_unpack.specs.CellsKept.{has_few_monitors};
+ghost use Rattle.state_unpack.specs.Knowledge.{has_few_monitors};
 ghost use Rattle.state_unpack.specs.Known.{Knows};
 
 use crate::facts::Facts;

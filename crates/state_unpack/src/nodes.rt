@@ -2,9 +2,9 @@
 
 ghost use Rattle.std.specs.Prelude.{◌≡◌, false, unwrap_or};
 ghost use Rattle.cluster_types.specs.Valid.{KeepsLimits};
-ghost use Rattle.state_unpack.specs.CellsKept as spec;
-ghost use Rattle.state_unpack.specs.Facts.{no_facts};
-ghost use Rattle.state_unpack.specs.Kept.{cell_in};
+ghost use Rattle.state_unpack.specs.Inner.CellsKept as spec;
+ghost use Rattle.state_unpack.specs.Inner.Facts.{no_facts};
+ghost use Rattle.state_unpack.specs.KeptCells.{cell_in};
 ghost use Rattle.state_unpack.specs.declared.facts.Facts.{Facts as FactsOf};
 ghost use Rattle.std.specs.Option.{option_map_or};
 

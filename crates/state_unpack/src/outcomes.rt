@@ -3,7 +3,7 @@
 ghost use Rattle.std.specs.Prelude.{◌≡◌, ◌==◌};
 ghost use Rattle.std.specs.List.{list_any};
 ghost use Rattle.cluster_types.specs.Outcomes as outcomes;
-ghost use Rattle.state_unpack.specs.LeafFields.{op_fail_of};
+ghost use Rattle.state_unpack.specs.Inner.LeafFields.{op_fail_of};
 
 use cluster_types::exit_codes::{
     DEGRADED, DEGRADED_PROMOTED, NOT_RUNNING, RUNNING_PROMOTED, SUCCESS,

@@ -3,7 +3,7 @@
 ghost use Rattle.std.specs.Prelude.{◌≡◌, ℕ};
 ghost use Rattle.cluster_types.specs.May as may;
 ghost use Rattle.cluster_types.specs.declared.journal.Event.TheVariants.{Ended};
-ghost use Rattle.state_unpack.specs.Operations as operations;
+ghost use Rattle.state_unpack.specs.Inner.Operations as operations;
 
 use crate::is_among;
 use crate::showing::{shows_nothing, takes_out};

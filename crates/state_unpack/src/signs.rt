@@ -3,8 +3,9 @@
 ghost use Rattle.std.specs.Prelude.{◌≡◌, ◌++◌, ◌∷◌, [], ℕ, List, IfOk};
 ghost use Rattle.cluster_types.specs.declared.journal.Event.{Event as EventOf};
 ghost use Rattle.cluster_types.specs.Journals.{sign_of};
-ghost use Rattle.state_unpack.specs.CellsKept.{quorum_after};
-ghost use Rattle.state_unpack.specs.Signs.{ShowsSigns, shown_of, state_by_sign};
+ghost use Rattle.state_unpack.specs.Inner.CellsKept.{quorum_after};
+ghost use Rattle.state_unpack.specs.Signs.{ShowsSigns};
+ghost use Rattle.state_unpack.specs.Inner.Signs.{shown_of, state_by_sign};
 
 use cluster_types::exit_codes::SUCCESS;
 use cluster_types::{Action, Event, NodeId, NodeState, Outcome};

@@ -3,7 +3,7 @@
 ghost use Rattle.std.specs.Prelude.{◌≡◌, ◌++◌, IfOk, OnOk, length, map};
 ghost use Rattle.std.specs.List.{flat_map, range_with_len};
 ghost use Rattle.cluster_types.specs.Valid.{KeepsLimits};
-ghost use Rattle.state_unpack.specs.CellsKept as spec;
+ghost use Rattle.state_unpack.specs.Inner.CellsKept as spec;
 
 use crate::cells::cell_from;
 use crate::facts::Facts;

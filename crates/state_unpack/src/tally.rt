@@ -2,7 +2,7 @@
 
 ghost use Rattle.std.specs.Prelude.{◌≡◌};
 ghost use Rattle.cluster_types.specs.Fields as fields;
-ghost use Rattle.state_unpack.specs.Tally as spec;
+ghost use Rattle.state_unpack.specs.Inner.Tally as spec;
 
 use crate::failing::{ended_at, has_code, is_failure, is_outcome, is_start, wants};
 use cluster_types::exit_codes::{

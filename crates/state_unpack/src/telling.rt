@@ -3,8 +3,9 @@
 ghost use Rattle.std.specs.Prelude.{◌==◌, ◌||◌, [], IfOk};
 ghost use Rattle.cluster_types.specs.Cells.{is_same_cell};
 ghost use Rattle.cluster_types.specs.Valid.{KeepsLimits};
-ghost use Rattle.state_unpack.specs.Kept.{IsFull, KeepsFacts, TellsEvent};
-ghost use Rattle.state_unpack.specs.Touching.{action_touches, touches};
+ghost use Rattle.state_unpack.specs.KeptCells.{IsFull, KeepsFacts};
+ghost use Rattle.state_unpack.specs.Inner.ToldCells.{TellsEvent};
+ghost use Rattle.state_unpack.specs.Inner.Touching.{action_touches, touches};
 
 use crate::facts::Facts;
 use cluster_types::{Action, Cluster, Event, LeafId, NodeId, cell_place};

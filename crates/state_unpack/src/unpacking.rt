@@ -2,9 +2,9 @@
 
 ghost use Rattle.std.specs.Prelude.{◌≡◌, ◌<◌, ◌^◌, true, IfOk};
 ghost use Rattle.cluster_types.specs.Journals as journals;
-ghost use Rattle.cluster_types.specs.Unpacked.{states_of};
+ghost use Rattle.cluster_types.specs.UnpackedStates.{states_of};
 ghost use Rattle.cluster_types.specs.Valid.{KeepsLimits};
-ghost use Rattle.state_unpack.specs.CellsKept.{has_few_monitors};
+ghost use Rattle.state_unpack.specs.Knowledge.{has_few_monitors};
 
 use crate::known_states::Known;
 use cluster_types::{Cluster, Journal, NoMemory, States};

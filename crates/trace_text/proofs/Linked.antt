@@ -7,8 +7,8 @@ use Rattle.std.proofs.lemmas.List.{get_or-append-add, get_or_append_left, get_or
 use Rattle.std.proofs.lemmas.List.Folds.{list_any_more}
 use Rattle.edges.specs.declared.edge.Edge.{Edge}
 use Rattle.cluster_types.specs.Inner.Walks.{joins}
-use Rattle.edges.specs.Rows.{no_edge}
-use Rattle.trace_text.specs.Inner.Arriving.{AreLinked, last_to, leads_to}
+use Rattle.edges.specs.Inner.Rows.{no_edge}
+use Rattle.trace_text.specs.Inner.ArrivingEdges.{AreLinked, last_to, leads_to}
 
 -- one edge more
 last_suc : (edges : List Edge) (y i : ℕ) → last_to edges y (i + 1) ≡ (if leads_to edges y i then i + 1 else last_to edges y i)

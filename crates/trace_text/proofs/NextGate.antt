@@ -12,7 +12,7 @@ use Rattle.cluster_types.specs.Inner.Walks.{joins}
 use Rattle.listed.specs.Sets.{is_member, members}
 use Rattle.trace_text.specs.declared.found_actions.Found.{Found}
 use Rattle.trace_text.specs.Inner.Backward.{IsOnTheWay}
-use Rattle.trace_text.specs.Inner.Found.{PositionsHaveRoom, SameSizes, is_found}
+use Rattle.trace_text.specs.Inner.FoundPositions.{PositionsHaveRoom, SameSizes, is_found}
 use Rattle.trace_text.proofs.Backward.{gate_passed, on_the_way_first, source_below}
 use Rattle.trace_text.proofs.FirstMembers.{first_above, first_from_one, first_least, first_member, first_to_most}
 use Rattle.trace_text.proofs.Places.{gate_found, nothing_found, room_kept}

@@ -6,7 +6,7 @@ use Rattle.std.proofs.lemmas.Bool.{cases_eq, ne_eqb, lt-ltb, le-ltb, ltb-true, l
 use Rattle.std.proofs.lemmas.List.{get_or-set_same, get_or-set_other, length-set}
 use Rattle.listed.specs.Sets.{is_member, members}
 use Rattle.trace_text.specs.declared.found_actions.Found.{Found}
-use Rattle.trace_text.specs.Inner.Found.{PositionsHaveRoom, SameSizes, is_found}
+use Rattle.trace_text.specs.Inner.FoundPositions.{PositionsHaveRoom, SameSizes, is_found}
 use Rattle.trace_text.proofs.FirstMembers.{no_member}
 
 pub same_sizes : (f : Found) → SameSizes f f

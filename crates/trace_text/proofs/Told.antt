@@ -8,7 +8,7 @@ use Rattle.cluster_types.proofs.Walks.{numbered}
 use Rattle.listed.specs.Sets.{is_member, members}
 use Rattle.trace_text.specs.declared.found_actions.Found.{Found}
 use Rattle.trace_text.specs.Inner.Backward.{IsOnTheWay}
-use Rattle.trace_text.specs.Inner.Found.{PositionsHaveRoom, is_found}
+use Rattle.trace_text.specs.Inner.FoundPositions.{PositionsHaveRoom, is_found}
 use Rattle.trace_text.specs.Inner.Walk.{befores}
 use Rattle.trace_text.proofs.Backward.{found_leads}
 use Rattle.trace_text.proofs.Places.{found_action, no_gate_found}

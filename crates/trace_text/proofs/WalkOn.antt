@@ -9,7 +9,7 @@ use Rattle.cluster_types.specs.declared.placement.Placed.{Placed}
 use Rattle.cluster_types.specs.declared.placement.Target.{Target}
 use Rattle.cluster_types.specs.declared.run.RunLine.{RunLine}
 use Rattle.cluster_types.specs.Tables.{targets_of}
-use Rattle.cluster_types.specs.Texts.{goal_line, leaf_lines, target_lines}
+use Rattle.cluster_types.specs.Texts.{goal_lines, leaf_lines, target_lines}
 use Rattle.trace_text.specs.declared.target_walk.LineColumn.{LineColumn}
 use Rattle.trace_text.specs.declared.target_walk.LineColumn.TheVariants as column
 use Rattle.trace_text.specs.declared.run_line_ref.RunLineRef.{RunLineRef}
@@ -54,7 +54,7 @@ module _ (c : Cluster) (pins : List (Option Pin)) (targets : ℕ → ℕ → Tar
 
   module _ (r : ℕ) (lt : r < length c.leaves) where
     abbrev goal_at : ℕ → List RunLine
-    goal_at n = goal_line c r n (targets r n)
+    goal_at n = goal_lines c r n (targets r n)
 
     goals_on : (n : ℕ) → (n < length c.nodes) ⊎ (length c.nodes ≤ n)
         → leaf_lines_from c pins targets none r (column.Goal n) ++ all_lines_from c pins targets none (r + 1)

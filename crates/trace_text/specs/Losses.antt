@@ -12,6 +12,6 @@ abbrev pub loss_lines : Cluster → Loss → List ℕ
 loss_lines c loss =
     codes "loss " ++ node_name c loss.node ++ codes "\n" ++ flat_map (run_line c) (target_lines c loss.pins (targets_of loss.table) loss.none)
 
--- the lines of each node that may be lost
+-- the lines of each node of which the loss is told
 abbrev pub survive_text : Cluster → Report → List ℕ
 survive_text c report = flat_map (loss_lines c) report.losses

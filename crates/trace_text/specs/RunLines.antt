@@ -28,12 +28,12 @@ pub record HasShortNames (c : Cluster) : Type 0 where
   pub nodes : (n : ℕ) → length (node_name c n) ≤ 256
   pub leaves : (r : ℕ) → length (leaf_name c r) ≤ 256
 
--- the rule that holds a leaf back, if one does, has a name
+-- the id of a rule that holds a leaf back is a name
 abbrev pub IsReasonNamed : NoReason → Type 0
 IsReasonNamed (Held id) = is_name id ≡ true
 IsReasonNamed _ = Unit {0}
 
--- what the line says to hold a leaf back, if it does, has a name
+-- where the line says which rule holds a leaf back, its id is a name
 abbrev pub HasName : RunLineRef → Type 0
 HasName (lent.Lacking r reason) = IsReasonNamed reason.now
 HasName _ = Unit {0}

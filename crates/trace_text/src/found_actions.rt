@@ -5,11 +5,11 @@ ghost use Rattle.cluster_types.specs.Graphs.{LeadUpward, LeadsByGates};
 ghost use Rattle.edges.specs.Loops.{EndsWithin};
 ghost use Rattle.cluster_types.specs.Inner.Walks.{joins};
 ghost use Rattle.listed.specs.Sets.{members};
-ghost use Rattle.trace_text.specs.Inner.Arriving.{AreLinked};
-ghost use Rattle.trace_text.specs.Inner.Found.{PositionsHaveRoom, SameSizes, is_found};
+ghost use Rattle.trace_text.specs.Inner.ArrivingEdges.{AreLinked};
+ghost use Rattle.trace_text.specs.Inner.FoundPositions.{PositionsHaveRoom, SameSizes, is_found};
 ghost use Rattle.trace_text.specs.Inner.Backward.{IsOnTheWay};
 
-use crate::arriving::Arriving;
+use crate::arriving_edges::Arriving;
 use cluster_types::Edge;
 use listed::NumberSet;
 use std::alloc::{AllocError, Global};

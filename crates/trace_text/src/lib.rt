@@ -6,7 +6,7 @@ mod names;
 mod numbers;
 
 // Which actions of a graph come before one.
-mod arriving;
+mod arriving_edges;
 mod found_actions;
 mod walk;
 

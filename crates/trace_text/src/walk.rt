@@ -1,7 +1,7 @@
 ghost use Rattle.std.specs.Prelude.{◌≡◌, ◌<◌, ◌≤◌, [], drop, length, slice_get, IfOk};
 ghost use Rattle.trace_text.specs.Inner.Walk.{befores};
 
-use crate::arriving::Arriving;
+use crate::arriving_edges::Arriving;
 use crate::found_actions::Found;
 use cluster_types::{Graph, NoMemory};
 use std::alloc::Global;

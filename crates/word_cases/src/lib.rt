@@ -21,7 +21,7 @@ mod worlds;
 #[cfg(test)]
 mod case_texts;
 #[cfg(test)]
-mod generated;
+mod generated_cases;
 
 // What the tests of words share.
 #[cfg(test)]

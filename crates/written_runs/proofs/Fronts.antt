@@ -11,7 +11,7 @@ use Rattle.cluster_types.specs.declared.journal.Event.TheVariants.{Begin}
 use Rattle.cluster_types.specs.declared.journal.Promotion.{Promotion}
 use Rattle.cluster_types.specs.declared.run.RunLine.{RunLine}
 use Rattle.cluster_types.specs.declared.run.RunLine.TheVariants as line
-use Rattle.cluster_types.specs.Answering.{added_by, is_number_of}
+use Rattle.cluster_types.specs.AnswersThatApply.{added_by, is_number_of}
 use Rattle.cluster_types.specs.Journals.{in_flight_by_begin}
 use Rattle.cluster_types.specs.Runs.{RunStanding, due, amid, RunsOn, plans, goes, completes, aborts, answers, Runs, here, one_more, journal_at}
 use Rattle.cluster_types.specs.Steps.{StepsOn, begins, takes, is_silent, silent_code}

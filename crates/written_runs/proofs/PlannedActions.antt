@@ -12,15 +12,15 @@ use Rattle.cluster_types.specs.declared.leaf.Leaf.{Leaf}
 use Rattle.cluster_types.specs.declared.leaf.Monitor.{Monitor as MonitorOf}
 use Rattle.cluster_types.specs.declared.leaf.Op.TheVariants as op
 use Rattle.cluster_types.specs.declared.leaf.Role.TheVariants as role
-use Rattle.cluster_types.specs.Answering.{role_of_interval}
+use Rattle.cluster_types.specs.AnswersThatApply.{role_of_interval}
 use Rattle.cluster_types.specs.Fields.{monitors}
-use Rattle.cluster_types.specs.Needed.{NeededBeforeMigration, Migrates, Needed, fence, kept, monitor, probe, sent, step, taken_in}
+use Rattle.cluster_types.specs.NeededActions.{NeededBeforeMigration, Migrates, Needed, fence, kept, monitor, probe, sent, step, taken_in}
 use Rattle.cluster_types.specs.Tables.{Targets}
 use Rattle.cluster_types.specs.Valid.{IsValid}
 use Rattle.planner.proofs.ActionKinds.{AreApart}
 use Rattle.plan_laws.proofs.CellSteps.{is_step}
 use Rattle.written_runs.specs.Fitting.{IntervalsFit}
-use Rattle.input_reading.specs.Written.{IsActionOf, IsCellOf, IsNumber}
+use Rattle.input_reading.specs.PrintedLines.{IsActionOf, IsCellOf, IsNumber}
 use Rattle.written_runs.proofs.Each.{read_in}
 
 -- of monitors of different intervals each is found by its own

@@ -14,13 +14,13 @@ use Rattle.cluster_types.specs.declared.journal.Promotion.{Promotion}
 use Rattle.cluster_types.specs.declared.leaf.Op.TheVariants as op
 use Rattle.cluster_types.specs.declared.run.RunLine.{RunLine}
 use Rattle.cluster_types.specs.declared.run.RunLine.TheVariants as line
-use Rattle.cluster_types.specs.Answering.{is_number_of}
+use Rattle.cluster_types.specs.AnswersThatApply.{is_number_of}
 use Rattle.cluster_types.specs.Journals.{in_flight_by_begin}
 use Rattle.cluster_types.specs.Plans.{transition_of}
 use Rattle.cluster_types.specs.Precedence.{op_cell}
 use Rattle.cluster_types.specs.Runs.{RunStanding, due, amid, idle, RunsOn, plans, goes, completes, aborts, answers, Runs, here, journal_at}
 use Rattle.cluster_types.specs.Safety.{IsSafe, IsSafeRun, MigratesAlone}
-use Rattle.cluster_types.specs.Steps.{Transition, Goes, StepsOn, here as none_yet, begins, takes, is_silent, answer_events, journal, resting, silent_code}
+use Rattle.cluster_types.specs.Steps.{Transition, Goes, StepsOn, here as none_yet, begins, takes, is_silent, answer_events, journal, idling, silent_code}
 use Rattle.cluster_types.specs.Tables.{targets_of}
 use Rattle.cluster_types.specs.Texts.{event_lines, target_lines}
 use Rattle.cluster_types.proofs.SourceLaws.{goes-more, step-untold}
@@ -74,8 +74,8 @@ module _ (c : Cluster) (promotions : List Promotion) (whole : Bool) (first : Lis
       by _ _ behind _ _ (aborts k t since _ over aborted) so_far =
           (is_due (k + 1) (journal t since), tell_more c first (journal t since) (journal t since) before (line.Aborted k ∷ []) so_far.told refl)
       by _ _ behind left _ (answers k es _ _ given said applies) so_far = (
-        is_due (k + 1) (es ++ answer_events (resting c es) [] given),
-        tell_more c first es (es ++ answer_events (resting c es) [] given) before (line.Taken given ∷ []) so_far.told
+        is_due (k + 1) (es ++ answer_events (idling c es) [] given),
+        tell_more c first es (es ++ answer_events (idling c es) [] given) before (line.Taken given ∷ []) so_far.told
             (told_idle c es (none_flies c promotions whole first (idle k es) rest behind before at_first so_far.runs tt) given),
       )
 
@@ -133,9 +133,9 @@ module _ (c : Cluster) (promotions : List Promotion) (whole : Bool) (first : Lis
       → LinesTell c first before (journal (transition_of c es actions) since) → IsSafe (transition_of c es actions) (since ++ Begin k a ∷ [])
       → IsSafeBegin c first before a
   safe_begin es actions since k a before told is = record {
-    start = IfSome_then (op_cell op.Start a) (is.copies since [] k a refl).0 (λ at fewer. record { journal = journal (transition_of c es actions) since; told = told; holds = fewer });
-    promote = IfSome_then (op_cell op.Promote a) (is.copies since [] k a refl).1 (λ at fewer. record { journal = journal (transition_of c es actions) since; told = told; holds = fewer });
-    promoted = IfSome_then (op_cell op.Promote a) (is.promotions since [] k a refl) (λ at fewer. record { journal = journal (transition_of c es actions) since; told = told; holds = fewer });
+    copies_at_start = IfSome_then (op_cell op.Start a) (is.copies since [] k a refl).0 (λ at fewer. record { journal = journal (transition_of c es actions) since; told = told; holds = fewer });
+    copies_at_promote = IfSome_then (op_cell op.Promote a) (is.copies since [] k a refl).1 (λ at fewer. record { journal = journal (transition_of c es actions) since; told = told; holds = fewer });
+    promoted_copies = IfSome_then (op_cell op.Promote a) (is.promotions since [] k a refl) (λ at fewer. record { journal = journal (transition_of c es actions) since; told = told; holds = fewer });
     alone = record { journal = journal (transition_of c es actions) since; told = told; holds = alone_by_journal (transition_of c es actions) first since a (is.migrations since [] k a refl) };
     apart = record { journal = journal (transition_of c es actions) since; told = told; holds = λ col among apart. is.neighbours since [] k a refl col among apart };
   }

@@ -11,11 +11,11 @@ use Rattle.cluster_types.specs.declared.journal.Promotion.{Promotion}
 use Rattle.cluster_types.specs.declared.placement.Placed.{Placed}
 use Rattle.cluster_types.specs.declared.run.RunLine.{RunLine}
 use Rattle.cluster_types.specs.declared.run.RunLine.TheVariants as line
-use Rattle.cluster_types.specs.Answering.{applies_after}
+use Rattle.cluster_types.specs.AnswersThatApply.{applies_after}
 use Rattle.cluster_types.specs.Plans.{IsPlan, transition_of}
 use Rattle.cluster_types.specs.Runs.{RunStanding, due, amid, idle, RunsOn, plans, goes, completes, aborts, answers, Runs, here, one_more, IsAsking, IsCutAt, IsOver, journal_at}
 use Rattle.cluster_types.specs.Sources.{told, used_up}
-use Rattle.cluster_types.specs.Steps.{Transition, Begins, EndsSilently, HasEnded, IsWaiting, StepsOn, begins, takes, is_silent, Applies, action_at, answer_events, begins_number, ended, has_aborted, has_begun, has_number_ended, in_flight_by_number, is_number_in_flight, journal, may_begin, numbers, numbers_in_flight, count_from_outside, resting, silent_code}
+use Rattle.cluster_types.specs.Steps.{Transition, Begins, EndsSilently, HasEnded, IsWaiting, StepsOn, begins, takes, is_silent, Applies, action_at, answer_events, begins_number, ended, has_aborted, has_begun, has_number_ended, in_flight_by_number, is_number_in_flight, journal, may_begin, numbers, numbers_in_flight, count_from_outside, idling, silent_code}
 use Rattle.cluster_types.specs.Steps as steps
 use Rattle.cluster_types.specs.Tables.{targets_of}
 use Rattle.cluster_types.specs.Texts.{event_lines, target_lines}
@@ -74,10 +74,10 @@ module _ (c : Cluster) (promotions : List Promotion) (whole : Bool) (placed_for 
     idle_ends k es = by to_come refl
       where
         answered : (given : Answer) (more : List Answer) (b : Bool) → to_come ≡ given ∷ more
-            → applies_after c (journal (resting c es) []) (in_flight_by_number (resting c es) []) (count_from_outside (resting c es) []) given ≡ b → EndsFrom (idle k es) (Some (given ∷ more))
+            → applies_after c (journal (idling c es) []) (in_flight_by_number (idling c es) []) (count_from_outside (idling c es) []) given ≡ b → EndsFrom (idle k es) (Some (given ∷ more))
         answered given more true same e =
-            ends_later (idle k es) (due (k + 1) (es ++ answer_events (resting c es) [] given)) (Some (given ∷ more)) (Some more) (line.Taken given ∷ [])
-            (answers k es (Some (given ∷ more)) (Some more) given (told given more) e) (next given more same (due (k + 1) (es ++ answer_events (resting c es) [] given)) tt)
+            ends_later (idle k es) (due (k + 1) (es ++ answer_events (idling c es) [] given)) (Some (given ∷ more)) (Some more) (line.Taken given ∷ [])
+            (answers k es (Some (given ∷ more)) (Some more) given (told given more) e) (next given more same (due (k + 1) (es ++ answer_events (idling c es) [] given)) tt)
         answered given more false same e =
             ends_here (idle k es) (Some (given ∷ more))
             (is_cut given (Some more) (record { asking = tt; said = told given more; refused = λ h. let f : ⊥ = cc in f }))
@@ -85,7 +85,7 @@ module _ (c : Cluster) (promotions : List Promotion) (whole : Bool) (placed_for 
         by : (left : List Answer) → to_come ≡ left → EndsFrom (idle k es) (Some left)
         by [] same = asked_in_vain (idle k es) tt (λ e. ends_here (idle k es) (Some []) (is_over (used_up e)))
         by (given ∷ more) same =
-            answered given more (applies_after c (journal (resting c es) []) (in_flight_by_number (resting c es) []) (count_from_outside (resting c es) []) given) same refl
+            answered given more (applies_after c (journal (idling c es) []) (in_flight_by_number (idling c es) []) (count_from_outside (idling c es) []) given) same refl
 
     -- amid a transition that is aborted or isn't, up to where that changes, or it ends
     module _ (k : ℕ) (t : Transition) (aborted : Bool)
@@ -177,7 +177,7 @@ module _ (c : Cluster) (promotions : List Promotion) (placed_for : List Event �
       → Runs c promotions whole (due 1 es) (Some to_come) lines last behind → IsCutAt c promotions whole last behind given left → HasCutRun c promotions es to_come whole
   cut_run whole lines last behind left given runs cut = record {
     lines = lines;
-    left = journal_at last;
+    journal_now = journal_at last;
     given = given;
     behind = left;
     run = record { last = last; unread = behind; steps = runs; cut = cut; leaves = refl };
@@ -189,7 +189,7 @@ module _ (c : Cluster) (promotions : List Promotion) (placed_for : List Event �
       by : (lines : List RunLine) (last : RunStanding) (behind : Option (List Answer)) → Runs c promotions true (due 1 es) (Some to_come) lines last behind
           → IsEnd c promotions true placed_for actions_for is_planned last behind → HasWholeRun c promotions es to_come ⊎ HasCutRun c promotions es to_come true
       by lines last behind runs (is_over over) =
-          inl (record { lines = lines; left = journal_at last; run = record { last = last; behind = behind; steps = runs; over = over; leaves = refl } })
+          inl (record { lines = lines; journal_now = journal_at last; run = record { last = last; behind = behind; steps = runs; over = over; leaves = refl } })
       by lines last behind runs (asks_more e asking none) = absurd (let f : ⊥ = cc in f)
       by lines last behind runs (is_cut given left cut) = inr (cut_run true lines last behind left given runs cut)
 
@@ -202,5 +202,5 @@ module _ (c : Cluster) (promotions : List Promotion) (placed_for : List Event �
           not_over c promotions es (journal_at last) (Some to_come) lines tt (record { last = last; behind = behind; steps = runs; over = over; leaves = refl })
       by lines last behind runs (asks_more e asking none) =
           let steps : Runs c promotions false (due 1 es) (Some to_come) lines last (Some []) = subst (λ z. Runs c promotions false (due 1 es) (Some to_come) lines last z) none runs in
-          inl (record { lines = lines; left = journal_at last; run = record { last = last; steps = steps; asking = asking; leaves = refl } })
+          inl (record { lines = lines; journal_now = journal_at last; run = record { last = last; steps = steps; asking = asking; leaves = refl } })
       by lines last behind runs (is_cut given left cut) = inr (cut_run false lines last behind left given runs cut)

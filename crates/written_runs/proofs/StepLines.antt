@@ -14,7 +14,7 @@ use Rattle.cluster_types.specs.declared.leaf.Op.TheVariants.{Start, Stop, Promot
 use Rattle.cluster_types.specs.declared.leaf.Role.TheVariants as role
 use Rattle.cluster_types.specs.declared.run.RunLine.{RunLine}
 use Rattle.cluster_types.specs.declared.run.RunLine.TheVariants as line
-use Rattle.cluster_types.specs.Answering.{is_joined_sign, is_number_of, is_offline_state, is_quiet_cell, monitor_action, most_from_outside, tells_news}
+use Rattle.cluster_types.specs.AnswersThatApply.{is_joined_sign, is_number_of, is_offline_state, is_quiet_cell, monitor_action, most_from_outside, tells_news}
 use Rattle.cluster_types.specs.Journals.{last_sign, moment_of}
 use Rattle.cluster_types.specs.May.{may_be_running}
 use Rattle.cluster_types.specs.NodeStates.{is_online, node_state}
@@ -23,7 +23,7 @@ use Rattle.cluster_types.specs.Sources.{Says, told, used_up, untold}
 use Rattle.cluster_types.specs.Steps.{Transition, StepsOn, begins, takes, is_silent, Applies, action_at, in_flight_by_number, journal, numbered, count_from_outside, silent_code}
 use Rattle.cluster_types.specs.Texts.{event_lines}
 use Rattle.run_safety.proofs.Printed.{answer_line, end_line}
-use Rattle.input_reading.specs.Written.{IsActionOf, IsAnswerOf, IsLineOf, IsNumber}
+use Rattle.input_reading.specs.PrintedLines.{IsActionOf, IsAnswerOf, IsLineOf, IsNumber}
 use Rattle.run_safety.proofs.Each.{Each, none, more}
 use Rattle.run_safety.proofs.InFlight.{among_flying, number_within}
 use Rattle.run_safety.proofs.Shapes.{Flies, all_fly}

@@ -20,9 +20,9 @@ use Rattle.cluster_types.specs.Pins.{pinned_targets}
 use Rattle.cluster_types.specs.Plans.{IsPlaced}
 use Rattle.cluster_types.specs.Reasons.{HasReason, IsFirstOf, IsHeldBy, IsHeldByColocation, IsHeldByOrder}
 use Rattle.cluster_types.specs.Tables.{Targets, targets_of}
-use Rattle.cluster_types.specs.Texts.{goal_line, lacking_lines, leaf_lines, pin_lines, target_lines}
+use Rattle.cluster_types.specs.Texts.{goal_lines, lacking_lines, leaf_lines, pin_lines, target_lines}
 use Rattle.cluster_types.specs.Valid.{IsValid}
-use Rattle.input_reading.specs.Written.{IsLineOf}
+use Rattle.input_reading.specs.PrintedLines.{IsLineOf}
 use Rattle.plan_laws.proofs.Firsts.{first_in}
 use Rattle.written_runs.proofs.Each.{all_in_range}
 
@@ -62,7 +62,7 @@ module _ (c : Cluster) (valid : IsValid c) where
   pin_fits r low None = tt
   pin_fits r low (Some pin) = (low, tt)
 
-  goal_fits : (r n : ℕ) → r < length c.leaves → n < length c.nodes → (goal : Target) → AllByRecursion (IsLineOf c) (goal_line c r n goal)
+  goal_fits : (r n : ℕ) → r < length c.leaves → n < length c.nodes → (goal : Target) → AllByRecursion (IsLineOf c) (goal_lines c r n goal)
   goal_fits r n low in_nodes target.Nowhere = tt
   goal_fits r n low in_nodes target.Started = ((record { leaf = low; node = in_nodes }, tt), tt)
   goal_fits r n low in_nodes target.Promoted = ((record { leaf = low; node = in_nodes }, tt), tt)
@@ -72,11 +72,11 @@ module _ (c : Cluster) (valid : IsValid c) where
       → AllByRecursion (IsLineOf c) (leaf_lines c pins targets reasons r)
   leaf_fits es table targets pins reasons r low has =
       let pinned = pin_lines c r (unwrap_or (slice_get pins r) None) in
-      let placed = flat_map (λ n. goal_line c r n (targets r n)) (range_with_len 0 (length c.nodes)) in
+      let placed = flat_map (λ n. goal_lines c r n (targets r n)) (range_with_len 0 (length c.nodes)) in
       let lacking = lacking_lines c r (unwrap_or (slice_get reasons r) None) in
       all_append (IsLineOf c) (pinned ++ placed) lacking
       (all_append (IsLineOf c) pinned placed (pin_fits r low (unwrap_or (slice_get pins r) None))
-      (all_in_range (IsLineOf c) (λ n. goal_line c r n (targets r n)) 0 (length c.nodes) (λ n up high. goal_fits r n low (omega (arith, high)) (targets r n))))
+      (all_in_range (IsLineOf c) (λ n. goal_lines c r n (targets r n)) 0 (length c.nodes) (λ n up high. goal_fits r n low (omega (arith, high)) (targets r n))))
       (read_fits es table targets reasons r low has)
 
   pub targets_fit : (es : List Event) (promotions : List Promotion) (placed : Placed) → IsPlaced c es promotions placed

@@ -17,10 +17,10 @@ use Rattle.cluster_types.specs.declared.placement.Target.{Target}
 use Rattle.cluster_types.specs.declared.placement.Target.TheVariants as target
 use Rattle.cluster_types.specs.declared.run.RunLine.{RunLine}
 use Rattle.cluster_types.specs.declared.run.RunLine.TheVariants as line
-use Rattle.cluster_types.specs.Answering.{added_by, is_number_of}
+use Rattle.cluster_types.specs.AnswersThatApply.{added_by, is_number_of}
 use Rattle.cluster_types.specs.Journals.{AreInFlightByNumber, in_flight_by_begin}
-use Rattle.cluster_types.specs.Steps.{Transition, Goes, StepsOn, here as none_yet, begins, takes, is_silent, answer_events, in_flight_by_number, journal, resting, silent_code}
-use Rattle.cluster_types.specs.Texts.{event_lines, goal_line, lacking_lines, leaf_lines, pin_lines, target_lines}
+use Rattle.cluster_types.specs.Steps.{Transition, Goes, StepsOn, here as none_yet, begins, takes, is_silent, answer_events, in_flight_by_number, journal, idling, silent_code}
+use Rattle.cluster_types.specs.Texts.{event_lines, goal_lines, lacking_lines, leaf_lines, pin_lines, target_lines}
 use Rattle.run_safety.proofs.ByNumber.{by_number}
 use Rattle.run_safety.proofs.InFlight.{among_flying}
 use Rattle.run_safety.proofs.Printed.{answer_line, end_line}
@@ -83,7 +83,7 @@ module _ (c : Cluster) where
   plan_pin r None = tt
   plan_pin r (Some pin) = (tt, tt)
 
-  plan_goal : (r n : ℕ) (goal : Target) → AllByRecursion IsOfPlanning (goal_line c r n goal)
+  plan_goal : (r n : ℕ) (goal : Target) → AllByRecursion IsOfPlanning (goal_lines c r n goal)
   plan_goal r n target.Nowhere = tt
   plan_goal r n target.Started = (tt, tt)
   plan_goal r n target.Promoted = (tt, tt)
@@ -96,11 +96,11 @@ module _ (c : Cluster) where
       → AllByRecursion IsOfPlanning (leaf_lines c pins targets reasons r)
   plan_leaf pins targets reasons r =
       let pinned = pin_lines c r (unwrap_or (slice_get pins r) None) in
-      let placed = flat_map (λ n. goal_line c r n (targets r n)) (range_with_len 0 (length c.nodes)) in
+      let placed = flat_map (λ n. goal_lines c r n (targets r n)) (range_with_len 0 (length c.nodes)) in
       let lacking = lacking_lines c r (unwrap_or (slice_get reasons r) None) in
       all_append IsOfPlanning (pinned ++ placed) lacking
       (all_append IsOfPlanning pinned placed (plan_pin r (unwrap_or (slice_get pins r) None))
-      (all_in_range IsOfPlanning (λ n. goal_line c r n (targets r n)) 0 (length c.nodes) (λ n low high. plan_goal r n (targets r n))))
+      (all_in_range IsOfPlanning (λ n. goal_lines c r n (targets r n)) 0 (length c.nodes) (λ n low high. plan_goal r n (targets r n))))
       (plan_lacking r (unwrap_or (slice_get reasons r) None))
 
   pub plan_lines : (pins : List (Option Pin)) (targets : ℕ → ℕ → Target) (reasons : List (Option NoReason)) (k : ℕ)
@@ -127,9 +127,9 @@ module _ (t : Transition) (idle : in_flight_by_begin t.planned_at ≡ []) (whole
 
 -- an answer that comes while nothing is to be done
 module _ (c : Cluster) (es : List Event) (idle : in_flight_by_begin es ≡ []) where
-  pub told_idle : (given : Answer) → LinesTell c es (line.Taken given ∷ []) (es ++ answer_events (resting c es) [] given)
+  pub told_idle : (given : Answer) → LinesTell c es (line.Taken given ∷ []) (es ++ answer_events (idling c es) [] given)
   told_idle given =
-      let t = resting c es in
+      let t = idling c es in
       let flies = by_number t true None None [] idle (none_yet [] None) in (
         in_flight_by_number t [],
         subst (λ z. AreInFlightByNumber z (in_flight_by_number t [])) (append-nil es) flies,

@@ -10,13 +10,13 @@ use Rattle.cluster_types.specs.declared.journal.Promotion.{Promotion}
 use Rattle.cluster_types.specs.declared.run.RunLine.{RunLine}
 use Rattle.cluster_types.specs.declared.run.RunLine.TheVariants as line
 use Rattle.cluster_types.specs.Runs.{RunStanding, due, amid, idle, RunsOn, plans, goes, completes, aborts, answers, Runs, here, one_more}
-use Rattle.cluster_types.specs.Steps.{Transition, resting}
+use Rattle.cluster_types.specs.Steps.{Transition, idling}
 use Rattle.cluster_types.specs.Tables.{targets_of}
 use Rattle.cluster_types.specs.Texts.{event_lines, target_lines}
 use Rattle.cluster_types.specs.Valid.{IsValid}
-use Rattle.run_safety.specs.Followed.{transition_number_at}
+use Rattle.run_safety.specs.TwoRuns.{transition_number_at}
 use Rattle.run_safety.proofs.Counted.{few_transitions}
-use Rattle.input_reading.specs.Written.{IsActionOf, IsLineOf}
+use Rattle.input_reading.specs.PrintedLines.{IsActionOf, IsLineOf}
 use Rattle.input_reading.specs.ResultFields.{AnswerFieldsFit}
 use Rattle.written_runs.specs.Fitting.{AnswersFit, IntervalsFit}
 use Rattle.written_runs.proofs.FewActions.{few_planned}
@@ -74,7 +74,7 @@ module _ (c : Cluster) (valid : IsValid c) (intervals : IntervalsFit c) (promoti
   prints _ _ rest _ _ (completes k t since _ ended unaborted) stands fit few = (record { low = stands.0; high = few }, tt)
   prints _ _ rest _ _ (aborts k t since _ ended aborted) stands fit few = (record { low = stands.0; high = omega (arith, few) }, tt)
   prints _ _ rest left _ (answers k es _ _ given said applies) low fit few =
-      (answer_fits (resting c es) [] (omega arith) given applies (said_fits whole rest left (Some given) said given refl fit), tt)
+      (answer_fits (idling c es) [] (omega arith) given applies (said_fits whole rest left (Some given) said given refl fit), tt)
 
   leaves : (at next : RunStanding) (rest left : Option (List Answer)) (lines : List RunLine) → RunsOn c promotions whole at rest lines next left → Stands at → (more : List RunLine)
       → AnswersFit rest (lines ++ more) → AnswersFit left more

@@ -12,7 +12,7 @@ use Rattle.cluster_types.specs.declared.leaf.Role.{Role}
 use Rattle.cluster_types.specs.declared.rules.Colocation.{Colocation}
 use Rattle.cluster_types.specs.declared.run.RunLine.{RunLine}
 use Rattle.cluster_types.specs.declared.run.RunLine.TheVariants as line
-use Rattle.cluster_types.specs.Answering.{added_by}
+use Rattle.cluster_types.specs.AnswersThatApply.{added_by}
 use Rattle.cluster_types.specs.Choice.{is_separation}
 use Rattle.cluster_types.specs.Fields.{copies, promoted_copies}
 use Rattle.cluster_types.specs.Journals.{AreInFlightByNumber}
@@ -63,9 +63,9 @@ module _ (c : Cluster) (first : List Event) where
 
   -- what is promised before a line `begin` of an action, by the one journal that the lines before it tell
   pub record IsSafeBegin (before : List RunLine) (a : Action) : Type 0 where
-    pub start : IfSome (op_cell op.Start a) (λ at. IsToldBy before (MayRunOnFewOthers at))
-    pub promote : IfSome (op_cell op.Promote a) (λ at. IsToldBy before (MayRunOnFewOthers at))
-    pub promoted : IfSome (op_cell op.Promote a) (λ at. IsToldBy before (MayBePromotedOnFewOthers at))
+    pub copies_at_start : IfSome (op_cell op.Start a) (λ at. IsToldBy before (MayRunOnFewOthers at))
+    pub copies_at_promote : IfSome (op_cell op.Promote a) (λ at. IsToldBy before (MayRunOnFewOthers at))
+    pub promoted_copies : IfSome (op_cell op.Promote a) (λ at. IsToldBy before (MayBePromotedOnFewOthers at))
     pub alone : IsToldBy before (HasItsLeafAlone a)
     pub apart : IsToldBy before (λ es. (col : Colocation) → Contains c.colocations col → is_separation col ≡ true
         → KeepsApart a col.dependent col.dependent_role col.primary col.primary_role es × KeepsApart a col.primary col.primary_role col.dependent col.dependent_role es)

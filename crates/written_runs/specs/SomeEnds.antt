@@ -11,19 +11,19 @@ module _ (c : Cluster) (promotions : List Promotion) (es : List Event) (answers 
   -- there is a whole run of these answers
   pub record HasWholeRun : Type 0 where
     pub lines : List RunLine
-    pub left : List Event
-    pub run : IsWholeRun c promotions true es (Some answers) lines left
+    pub journal_now : List Event
+    pub run : IsWholeRun c promotions true es (Some answers) lines journal_now
 
   -- there is a run that takes them all, and asks for one more
   pub record HasRunSoFar : Type 0 where
     pub lines : List RunLine
-    pub left : List Event
-    pub run : IsRunSoFar c promotions false es (Some answers) lines left (Some [])
+    pub journal_now : List Event
+    pub run : IsRunSoFar c promotions false es (Some answers) lines journal_now (Some [])
 
   -- there is a run that is cut by one of them, which doesn't apply
   pub record HasCutRun (whole : Bool) : Type 0 where
     pub lines : List RunLine
-    pub left : List Event
+    pub journal_now : List Event
     pub given : Answer
     pub behind : Option (List Answer)
-    pub run : IsCutRun c promotions whole es (Some answers) lines left given behind
+    pub run : IsCutRun c promotions whole es (Some answers) lines journal_now given behind

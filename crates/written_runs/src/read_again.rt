@@ -10,11 +10,11 @@ ghost use Rattle.cluster_types.specs.declared.run.RunLine.{RunLine as LineOf};
 ghost use Rattle.cluster_types.specs.declared.run.RunLine.TheVariants as line;
 ghost use Rattle.cluster_types.specs.Runs.{RunStanding, due, Runs, IsCutRun, IsRunSoFar, IsStoppedRun, IsWholeRun};
 ghost use Rattle.cluster_types.specs.Valid.{IsValid};
-ghost use Rattle.run_safety.specs.Followed.{transition_number_at};
+ghost use Rattle.run_safety.specs.TwoRuns.{transition_number_at};
 ghost use Rattle.input_reading.specs.declared.input.reading.Input.{Input as InputOf};
 ghost use Rattle.input_reading.specs.declared.results.result_lines.ResultLine.{ResultLine as ResultOf};
 ghost use Rattle.input_reading.specs.Reading.{ReadsInput};
-ghost use Rattle.input_reading.specs.Written.{IsLineOf, IsNumber, ReadsAgain};
+ghost use Rattle.input_reading.specs.PrintedLines.{IsLineOf, IsNumber, ReadsAgain};
 ghost use Rattle.input_reading.specs.ResultFields.{AnswerFieldsFit};
 ghost use Rattle.written_runs.specs.Fitting.{AnswersFit, IntervalsFit};
 

@@ -8,7 +8,7 @@ use Rattle.cluster_types.specs.Tables.{Targets}
 use Rattle.decision_account.specs.Parts.{ScorePart, from_colocation, part_of}
 use Rattle.placement.specs.Tests.{counts, has_primary, keeps_apart}
 use Rattle.account_text.specs.Inner.Sources.{lent_values}
-use Rattle.account_text.specs.Inner.Told.{part_where}
+use Rattle.account_text.specs.Inner.PartsByStates.{part_where}
 
 abbrev pub is_side : Decision → Colocation → Bool
 is_side d col = is_dependent d col || is_primary d col

@@ -14,7 +14,7 @@ use Rattle.cluster_model.specs.declared.resolution.directory.Directory.{Director
 use Rattle.cluster_model.specs.declared.resolution.fault.ModelCause.{ModelCause}
 use Rattle.cluster_model.specs.declared.resolution.fault.ModelCause.TheVariants.{UnknownName, NotPromotable, UnsupportedOrder, TooManyNodes, TooManyLeaves, TooManyRules}
 use Rattle.cluster_model.specs.declared.resolution.orders.Point.{Point}
-use Rattle.cluster_model.specs.Successive.{successive}
+use Rattle.cluster_model.specs.SuccessivePairs.{successive}
 use Rattle.cluster_model.specs.Inner.Colocations.{dependent_at, primary_at}
 use Rattle.cluster_model.specs.Inner.Directories.{first_named, is_unknown, is_unknown_node, may_promote}
 use Rattle.cluster_model.specs.Locations.{role_of_word, role_written}

@@ -105,5 +105,5 @@ abbrev pub are_joined : Option Traits → Option Traits → Bool
 are_joined (Some first) (Some later) = joins_copies first later
 are_joined _ _ = false
 
-abbrev pub is_local : Directory → ℕ → ℕ → Bool
-is_local d first later = are_joined (slice_get d.leaves first) (slice_get d.leaves later)
+abbrev pub is_local_by : Directory → ℕ → ℕ → Bool
+is_local_by d first later = are_joined (slice_get d.leaves first) (slice_get d.leaves later)

@@ -13,7 +13,7 @@ use Rattle.cluster_model.specs.declared.expansion.expand_fault.ExpandCause.{Expa
 use Rattle.cluster_model.specs.declared.expansion.expand_fault.ExpandCause.TheVariants.{DuplicateName, UnknownName, NestedTwice, EmptyGroup, MemberTwice, UnsupportedMeta}
 use Rattle.cluster_model.specs.declared.expansion.kinds.Kind.{Kind}
 use Rattle.cluster_model.specs.declared.expansion.kinds.Kind.TheVariants as kind
-use Rattle.cluster_model.specs.declared.expansion.seen.Seen.{Seen}
+use Rattle.cluster_model.specs.declared.expansion.seen_names.Seen.{Seen}
 use Rattle.cluster_model.specs.Settings.{node_names_in}
 use Rattle.cluster_model.specs.Inner.Tables.{lookup}
 use Rattle.cluster_model.specs.Faults.{ids_in, parts_in, is_empty_group, has_twice}

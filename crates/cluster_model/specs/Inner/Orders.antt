@@ -12,8 +12,8 @@ use Rattle.cluster_types.specs.declared.rules.OrderKind.{OrderKind}
 use Rattle.cluster_types.specs.declared.rules.OrderKind.TheVariants as kind
 use Rattle.cluster_model.specs.declared.resolution.directory.Directory.{Directory}
 use Rattle.cluster_model.specs.declared.resolution.orders.Point.{Point}
-use Rattle.cluster_model.specs.Successive.{successive}
-use Rattle.cluster_model.specs.Inner.Directories.{first_named, is_local, last_named}
+use Rattle.cluster_model.specs.SuccessivePairs.{successive}
+use Rattle.cluster_model.specs.Inner.Directories.{first_named, is_local_by, last_named}
 use Rattle.cluster_model.specs.Orders.{op_of, kind_of_word, is_down}
 
 -- what comes first: a group has come up with its last member, and has gone down with its first
@@ -33,7 +33,7 @@ order_of d id kind symmetrical first later = record {
   then_leaf = later.leaf;
   then_op = later.what;
   symmetrical = symmetrical;
-  local = is_local d first.leaf later.leaf;
+  local = is_local_by d first.leaf later.leaf;
 }
 
 -- an order of two resources

@@ -9,7 +9,7 @@ ghost use Rattle.cluster_model.specs.Inner.Tables.{lookup};
 
 use crate::expansion::clones::is_promotable;
 use crate::expansion::kinds::{Kind, is_group, kinds_of};
-use crate::expansion::seen::{Seen, nothing_seen, parts_in};
+use crate::expansion::seen_names::{Seen, nothing_seen, parts_in};
 use crate::name_table::NameTable;
 use crate::{ExpandCause, ExpandFault};
 use cluster_types::NoMemory;

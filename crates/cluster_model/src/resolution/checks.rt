@@ -3,7 +3,7 @@
 ghost use Rattle.std.specs.Prelude.{◌≡◌, ◌≤◌, [], length};
 ghost use Rattle.std.specs.List.{list_any};
 ghost use Rattle.std.specs.Option.{option_or};
-ghost use Rattle.cluster_model.specs.Successive.{successive};
+ghost use Rattle.cluster_model.specs.SuccessivePairs.{successive};
 ghost use Rattle.cluster_model.specs.Locations.{role_written};
 ghost use Rattle.cluster_model.specs.Inner.Directories.{is_unknown};
 ghost use Rattle.cluster_model.specs.Inner.Checks.{cause_of, excess_of, has_unknown, has_unpromotable, lacks_action, lacks_in_pair, lacks_role, side_lacks};

@@ -1,7 +1,7 @@
 //! Who wants to be where another is.
 
 ghost use Rattle.std.specs.Prelude.{◌≡◌, ◌++◌, map, IfOk, OnOk};
-ghost use Rattle.cluster_model.specs.Successive.{successive};
+ghost use Rattle.cluster_model.specs.SuccessivePairs.{successive};
 ghost use Rattle.cluster_model.specs.Inner.Colocations.{colocation_of, colocations_in, colocations_of, dependent_at, member_colocation, primary_at};
 
 use crate::resolution::copies::copy_name;

@@ -1,7 +1,7 @@
 //! What the names in rules stand for.
 
 ghost use Rattle.std.specs.Prelude.{◌≡◌, ◌≤◌, ◌++◌, length, map, slice_get, IfOk, OnOk};
-ghost use Rattle.cluster_model.specs.Inner.Directories.{are_there, directory_of, ends_in_directory, span_ends, first_named, groups_of, is_local, is_one_group, is_unknown, is_unknown_node, joins_copies, last_named, may_promote, members_in, node_named, nodes_of, resources_of, traits_of};
+ghost use Rattle.cluster_model.specs.Inner.Directories.{are_there, directory_of, ends_in_directory, span_ends, first_named, groups_of, is_local_by, is_one_group, is_unknown, is_unknown_node, joins_copies, last_named, may_promote, members_in, node_named, nodes_of, resources_of, traits_of};
 
 use crate::expansion::spans::Ends;
 use crate::{Leaves, NameTable, Span};
@@ -237,7 +237,7 @@ impl<'n> Directory<'n> {
 
     /// Whether an order of the two leaves joins the copies on one node only.
     pub fn is_local(&self, first: LeafId, later: LeafId) -> bool
-        ensures { result ≡ is_local self.now first later }
+        ensures { result ≡ is_local_by self.now first later }
     {
         match (self.traits_at(first), self.traits_at(later)) {
             (Some(first), Some(later)) => joins_copies(&first, &later),

@@ -1,7 +1,7 @@
 //! What comes before what.
 
 ghost use Rattle.std.specs.Prelude.{◌≡◌, ◌++◌, map, IfOk, OnOk};
-ghost use Rattle.cluster_model.specs.Successive.{successive};
+ghost use Rattle.cluster_model.specs.SuccessivePairs.{successive};
 ghost use Rattle.cluster_model.specs.Inner.Orders.{first_point, member_order, order_of, orders_in, orders_of, step_order, then_point};
 ghost use Rattle.cluster_model.specs.Orders.{is_down, kind_of_word, op_of};
 

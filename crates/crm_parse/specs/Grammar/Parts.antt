@@ -96,8 +96,8 @@ MayFollow owner.Node (pairs_section Attributes _) (pairs_section Utilization _) 
 MayFollow owner.Node _ _ = ⊥
 MayFollow _ _ _ = Unit {0}
 
--- the sections of a statement: they are written one after another, each in its turn; no key stands twice in all sections of one word; `start`, `stop`,
--- `promote` and `demote` stand at most once each; and there are no more than 8 recurring monitors, each of an interval of its own
+-- the sections of a statement: they are written one after another, each in its turn; no key but `$id` stands twice in all sections of one word; `start`,
+-- `stop`, `promote` and `demote` stand at most once each; and there are no more than 8 recurring monitors, each of an interval of its own
 pub record SectionsSay (statement : Owner) (words : Words) (sections : List Section) : Type 0 where
   pub written : PartsSay (SectionSays statement) words sections
   pub in_turn : EachTwo (MayFollow statement) sections

@@ -5,6 +5,10 @@ use Rattle.edges.specs.declared.edge.Edge.{Edge}
 use Rattle.edges.specs.declared.side.Side.TheVariants.{Before}
 use Rattle.edges.specs.Rows.{edges_at, edge_targets_of}
 
+-- what is read where no edge is
+abbrev pub no_edge : Edge
+no_edge = record { before = 0; after = 0 }
+
 -- how many edges come from positions below this one
 abbrev pub edges_below : List Edge → ℕ → ℕ
 edges_below edges x = count_by (λ e. nat_lt e.before x) edges

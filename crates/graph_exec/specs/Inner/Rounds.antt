@@ -4,54 +4,54 @@ use Rattle.std.specs.List.{flat_map}
 use Rattle.cluster_types.specs.declared.journal.Answer.{Answer}
 use Rattle.cluster_types.specs.declared.journal.Event.{Event}
 use Rattle.cluster_types.specs.declared.run.RunLine.TheVariants as line
-use Rattle.cluster_types.specs.Answering.{most_from_outside}
+use Rattle.cluster_types.specs.AnswersThatApply.{most_from_outside}
 use Rattle.cluster_types.specs.Sources.{Says}
 use Rattle.cluster_types.specs.Steps.{Applies, IsWaiting, StepsOn, answer_events, has_begun, has_number_ended, numbers, count_from_outside}
 use Rattle.cluster_types.specs.Texts.{event_lines}
 use Rattle.graph_exec.specs.declared.transition.ends.WatchedEnd.{WatchedEnd}
 use Rattle.graph_exec.specs.declared.transition.ends.WatchedEnd.TheVariants as how
-use Rattle.graph_exec.specs.Lasting.{LastWord, none_failed, transition_word}
-use Rattle.graph_exec.specs.Running.{Running, BeginsNow, IsAnswerRefused, Went, going, later}
+use Rattle.graph_exec.specs.LastWords.{LastWord, none_failed, transition_word}
+use Rattle.graph_exec.specs.Executors.{ExecutorOf, BeginsNow, IsAnswerRefused, Went, transition_in, later}
 
 -- how many actions may begin yet, how many may end, and how often an answer may be taken
-abbrev pub begins_left : Running → ℕ
-begins_left r = count_by (λ k. not (has_begun (going r) r.since k)) (numbers (going r))
+abbrev pub begins_left : ExecutorOf → ℕ
+begins_left r = count_by (λ k. not (has_begun (transition_in r) r.since k)) (numbers (transition_in r))
 
-abbrev pub ends_left : Running → ℕ
-ends_left r = count_by (λ k. not (has_number_ended (going r) r.since k)) (numbers (going r))
+abbrev pub ends_left : ExecutorOf → ℕ
+ends_left r = count_by (λ k. not (has_number_ended (transition_in r) r.since k)) (numbers (transition_in r))
 
-abbrev pub asks_left : Running → ℕ
-asks_left r = ends_left r + (most_from_outside - count_from_outside (going r) r.since)
+abbrev pub asks_left : ExecutorOf → ℕ
+asks_left r = ends_left r + (most_from_outside - count_from_outside (transition_in r) r.since)
 
 -- some action begins: of those that may, the one of lowest number
-pub record Began (old new : Running) : Type 0 where
+pub record Began (old new : ExecutorOf) : Type 0 where
   pub number : ℕ
   pub now : BeginsNow old new number
 
 -- an answer was taken, or an action ended silently, as if this had been answered
-pub record Answered (whole : Bool) (old new : Running) (rest left : Option (List Answer)) (given : Answer) : Type 0 where
+pub record Answered (whole : Bool) (old new : ExecutorOf) (rest left : Option (List Answer)) (given : Answer) : Type 0 where
   pub events : List Event
-  pub step : StepsOn (going old) whole old.since rest events left
+  pub step : StepsOn (transition_in old) whole old.since rest events left
   pub goes_on : new ≡ later old events
-  pub adds : events ≡ answer_events (going old) old.since given
-  pub applies : Applies (going old) old.since given
+  pub adds : events ≡ answer_events (transition_in old) old.since given
+  pub applies : Applies (transition_in old) old.since given
   pub lines : flat_map event_lines events ≡ line.Taken given ∷ []
   pub fewer : asks_left new < asks_left old
 
 -- it went on, and an answer fewer may be taken
-pub record Advanced (whole : Bool) (old new : Running) (rest left : Option (List Answer)) : Type 0 where
+pub record Advanced (whole : Bool) (old new : ExecutorOf) (rest left : Option (List Answer)) : Type 0 where
   pub went : Went whole old new rest left
   pub fewer : asks_left new < asks_left old
 
 -- the answer doesn't apply
-pub record IsUnexpected (whole : Bool) (old new : Running) (rest left : Option (List Answer)) (given : Answer) : Type 0 where
-  pub waiting : IsWaiting (going old) old.since
+pub record IsUnexpected (whole : Bool) (old new : ExecutorOf) (rest left : Option (List Answer)) (given : Answer) : Type 0 where
+  pub waiting : IsWaiting (transition_in old) old.since
   pub said : Says whole rest (Some given) left
   pub refused : IsAnswerRefused old new given
 
 -- the source failed
-pub record HasSourceFailed (old new : Running) (rest left : Option (List Answer)) : Type 0 where
-  pub waiting : IsWaiting (going old) old.since
+pub record HasSourceFailed (old new : ExecutorOf) (rest left : Option (List Answer)) : Type 0 where
+  pub waiting : IsWaiting (transition_in old) old.since
   pub same : new ≡ old
   pub left_is : left ≡ rest
 
@@ -65,7 +65,7 @@ round_word None = none_failed
 round_word (Some end) = transition_word end
 
 -- why no answer was taken
-abbrev pub StopsAs : Bool → Running → Running → Option (List Answer) → Option (List Answer) → WatchedEnd → Type 0
+abbrev pub StopsAs : Bool → ExecutorOf → ExecutorOf → Option (List Answer) → Option (List Answer) → WatchedEnd → Type 0
 StopsAs whole old new rest left (how.Unexpected given) = IsUnexpected whole old new rest left given
 StopsAs whole old new rest left how.SourceFault = HasSourceFailed old new rest left
 StopsAs whole old new rest left _ = ⊥

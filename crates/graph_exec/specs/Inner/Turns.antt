@@ -11,13 +11,13 @@ use Rattle.cluster_types.specs.declared.states.States.{States}
 use Rattle.cluster_types.specs.Runs.{RunStanding, due, idle, Runs, RunsOn, IsAsking, IsBetween, IsCutAt, IsOver, journal_at}
 use Rattle.cluster_types.specs.Graphs.{GraphOf}
 use Rattle.cluster_types.specs.Plans.{CarriesOut}
-use Rattle.cluster_types.specs.Unpacked.{states_of}
-use Rattle.graph_exec.specs.Lasting.{LastWord, none_failed}
-use Rattle.graph_exec.specs.Logs.{JournalOf}
+use Rattle.cluster_types.specs.UnpackedStates.{states_of}
+use Rattle.graph_exec.specs.LastWords.{LastWord, none_failed}
+use Rattle.graph_exec.specs.KnownJournals.{KnownJournalOf}
 use Rattle.graph_exec.specs.Promises.{IsGraphPlanned}
-use Rattle.graph_exec.specs.Running.{Running}
-use Rattle.graph_exec.specs.Saying.{TakesAnswers}
-use Rattle.graph_exec.specs.Telling.{ReasonsHaveNames, StopsAmong}
+use Rattle.graph_exec.specs.Executors.{ExecutorOf}
+use Rattle.graph_exec.specs.SourceDuties.{TakesAnswers}
+use Rattle.graph_exec.specs.WatcherLines.{ReasonsHaveNames, StopsAmong}
 use Rattle.graph_exec.specs.declared.run.planning.KeptPlan.{KeptPlan}
 use Rattle.graph_exec.specs.declared.run.planning.Planned.{Planned}
 use Rattle.graph_exec.specs.declared.run.stop.ReplayStop.{ReplayStop}
@@ -31,11 +31,11 @@ abbrev pub journal_back : Setting → RunStanding → Journal
 journal_back s at = record { events = journal_at at; promotions = s.promotions }
 
 -- a journal without what it tells
-abbrev pub plain_of : JournalOf → Journal
+abbrev pub plain_of : KnownJournalOf → Journal
 plain_of j = record { events = j.events; promotions = j.promotions }
 
 -- the journal that a transition leaves, without what it tells
-abbrev pub left_of : Running → Journal
+abbrev pub left_of : ExecutorOf → Journal
 left_of r = record { events = r.planned_at ++ r.since; promotions = r.promotions }
 
 -- the run from a standing on prints these lines up to another, and each of its answers was said: they are those that were taken, where the answers to come
@@ -54,7 +54,7 @@ module _ (Follows : List RunLine → Type 0) (s : Setting) (from : RunStanding) 
     pub said : s.steady ≡ true → new.over ≡ false → IsSaid s from at lines old.rest new.rest
 
   -- the same, where the journal is kept with what it tells
-  pub record CameTo (at : List Event → RunStanding) (journal : JournalOf) : Type 0 where
+  pub record CameTo (at : List Event → RunStanding) (journal : KnownJournalOf) : Type 0 where
     pub cluster_stays : journal.cluster ≡ s.cluster
     pub promotions_stay : journal.promotions ≡ s.promotions
     pub came : HasComeTo (at journal.events)
@@ -122,11 +122,11 @@ module _ (Follows : List RunLine → Type 0) (s : Setting) (from : RunStanding) 
   RunEndsAs Stopped (Err stop.NoMemory) = RunEndsBetween
 
 -- nothing of the graph has begun
-abbrev pub fresh_on : JournalOf → GraphOf → Running
+abbrev pub fresh_on : KnownJournalOf → GraphOf → ExecutorOf
 fresh_on j g = record { cluster = j.cluster; graph = g; planned_at = j.events; since = []; promotions = j.promotions }
 
 -- the transition that is planned for a journal, of which nothing has begun
-pub record IsReady (journal : JournalOf) (p : Planned) : Type 0 where
+pub record IsReady (journal : KnownJournalOf) (p : Planned) : Type 0 where
   pub fresh : p.executor ≡ record {
     cluster = journal.cluster;
     graph = p.executor.graph;
@@ -147,7 +147,7 @@ abbrev pub ServesAgain : Cluster → States → Planned → Type 0
 ServesAgain c states p = Serves c (record { states = states; placed = p.placed; graph = p.executor.graph })
 
 -- its graph carries out a plan
-pub record HasPlannedGraph (r : Running) : Type 0 where
+pub record HasPlannedGraph (r : ExecutorOf) : Type 0 where
   pub placed : Placed
   pub planned : IsGraphPlanned r placed
 

@@ -4,10 +4,10 @@ ghost use Rattle.std.specs.Prelude.{◌≡◌, [], true, false, IfOk, IfErr};
 ghost use Rattle.cluster_io.specs.Streams.{Rose};
 ghost use Rattle.cluster_types.specs.Runs.{amid};
 ghost use Rattle.cluster_types.specs.Safety.{IsAtRest};
-ghost use Rattle.graph_exec.specs.Lasting.{SourceLasts, WatcherLasts};
-ghost use Rattle.graph_exec.specs.Running.{going};
+ghost use Rattle.graph_exec.specs.LastWords.{SourceLasts, WatcherLasts};
+ghost use Rattle.graph_exec.specs.Executors.{transition_in};
 ghost use Rattle.graph_exec.specs.Replays.{AgreesWith, IsQuietInFault, IsReplayExpected, IsShownEnd, OfMade, setting, sight};
-ghost use Rattle.graph_exec.specs.Telling.{view_amid, view_between};
+ghost use Rattle.graph_exec.specs.WatcherLines.{view_amid, view_between};
 ghost use Rattle.graph_exec.specs.Inner.Turns.{CameTo, RunEndsAs, HasPlannedGraph, closed_at, part_heard, part_word};
 
 use crate::run::stop::{Ended, ReplayStop};
@@ -34,7 +34,7 @@ pub(crate) fn carry_out<'c, S: Outcomes, V: Watcher>(
     requires planned { HasPlannedGraph executor }
     ensures closes { IfOk result (λ closed. CameTo (V.follows watcher.old watcher.new)
         (setting executor.entry.cluster executor.entry.promotions (S.whole outcomes.old) (S.steady outcomes.old))
-        (amid number (going executor.entry) [])
+        (amid number (transition_in executor.entry) [])
         (sight (S.rest outcomes.old) (S.over outcomes.old))
         (sight (S.rest outcomes.new) (S.over outcomes.new))
         (closed_at number closed.complete) closed.journal) }
@@ -42,7 +42,7 @@ pub(crate) fn carry_out<'c, S: Outcomes, V: Watcher>(
     ensures graph { IfOk result (λ closed. closed.graph ≡ executor.entry.graph) }
     ensures ends { IfErr result (RunEndsAs (V.follows watcher.old watcher.new)
         (setting executor.entry.cluster executor.entry.promotions (S.whole outcomes.old) (S.steady outcomes.old))
-        (amid number (going executor.entry) [])
+        (amid number (transition_in executor.entry) [])
         (sight (S.rest outcomes.old) (S.over outcomes.old))
         (sight (S.rest outcomes.new) (S.over outcomes.new))
         (V.stopped watcher.old watcher.new)) }

@@ -4,15 +4,15 @@ ghost use Rattle.std.specs.Prelude.{◌≡◌, ◌⊎◌, ◌+◌, [], true, IfO
 ghost use Rattle.cluster_io.specs.Streams.{Rose};
 ghost use Rattle.cluster_types.specs.Journals.{in_flight_by_begin};
 ghost use Rattle.cluster_types.specs.Runs.{due, idle};
-ghost use Rattle.graph_exec.specs.Inner.Keeping.{IsAnswered, IsUnanswered};
-ghost use Rattle.graph_exec.specs.Lasting.{SourceLasts, WatcherLasts};
+ghost use Rattle.graph_exec.specs.Inner.KeptTransitions.{IsAnswered, IsUnanswered};
+ghost use Rattle.graph_exec.specs.LastWords.{SourceLasts, WatcherLasts};
 ghost use Rattle.graph_exec.specs.Replays.{AgreesWith, IsQuietInFault, IsReplayExpected, IsShownEnd, OfMade, setting, sight};
-ghost use Rattle.graph_exec.specs.Telling.{view_between};
+ghost use Rattle.graph_exec.specs.WatcherLines.{view_between};
 ghost use Rattle.graph_exec.specs.Inner.Turns.{CameTo, RunEndsAs, part_heard, part_word};
 
 use crate::run::stop::{Ended, ReplayStop};
 use crate::transition::rounds::wait_for;
-use crate::{Heard, KnownJournal, Next, Outcomes, Resting, Watcher};
+use crate::{Heard, IdleCluster, KnownJournal, Next, Outcomes, Watcher};
 use cluster_types::Answer;
 use std::alloc::Global;
 
@@ -48,7 +48,7 @@ pub(crate) fn ask_idle<'c, S: Outcomes, V: Watcher>(
     ensures answer { IfOk result (λ _. Rose (S.answered outcomes.old) (S.answered outcomes.new)) }
     ensures quiet { IfErr result (IsQuietInFault (S.broke outcomes.new) (V.quiet watcher.now)) }
 {
-    let Ok(resting) = Resting::new(alloc, journal) else {
+    let Ok(resting) = IdleCluster::new(alloc, journal) else {
         return Err(Err(ReplayStop::NoMemory));
     };
     match outcomes.next(resting.flight()) {

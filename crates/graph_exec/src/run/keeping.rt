@@ -5,8 +5,8 @@ ghost use Rattle.cluster_types.specs.declared.journal.Answer.{Answer as AnswerOf
 ghost use Rattle.cluster_types.specs.declared.journal.Event.{Event as EventOf};
 ghost use Rattle.cluster_types.specs.Safety.{IsAtRest};
 ghost use Rattle.cluster_types.specs.Valid.{IsValid};
-ghost use Rattle.graph_exec.specs.Inner.Keeping.{KeepsEnd, KeepsTo, StaysOf, keeping_word, passed_end};
-ghost use Rattle.graph_exec.specs.Lasting.{SourceLasts};
+ghost use Rattle.graph_exec.specs.Inner.KeptTransitions.{KeepsEnd, KeepsTo, StaysOf, keeping_word, passed_end};
+ghost use Rattle.graph_exec.specs.LastWords.{SourceLasts};
 ghost use Rattle.graph_exec.specs.Replays.{AgreesWith, IsReplayExpected, OfMade, setting};
 
 use crate::run::idling::ask_idle;

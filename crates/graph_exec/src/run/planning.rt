@@ -2,9 +2,9 @@
 
 ghost use Rattle.std.specs.Prelude.{◌≡◌, IfOk, IfSome};
 ghost use Rattle.cluster_types.specs.Safety.{IsAtRest};
-ghost use Rattle.cluster_types.specs.Unpacked.{states_of};
+ghost use Rattle.cluster_types.specs.UnpackedStates.{states_of};
 ghost use Rattle.cluster_types.specs.Valid.{IsValid};
-ghost use Rattle.planner.specs.Planned.{AreTold};
+ghost use Rattle.planner.specs.PlanForJournal.{AreTold};
 ghost use Rattle.graph_exec.specs.Inner.Turns.{IsReady, Serves, ServesAgain, fresh_on};
 
 use crate::run::same_states::are_same;

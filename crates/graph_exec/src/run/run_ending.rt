@@ -1,7 +1,7 @@
 //! How a run ends that is kept.
 
 ghost use Rattle.std.specs.Prelude.{◌≡◌};
-ghost use Rattle.graph_exec.specs.Inner.Keeping.{kept_end};
+ghost use Rattle.graph_exec.specs.Inner.KeptTransitions.{kept_end};
 
 use crate::run::stop::{Ended, KeptEnd, ReplayStop};
 use cluster_types::{Passed, Run};

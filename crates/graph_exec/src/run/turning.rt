@@ -6,9 +6,9 @@ ghost use Rattle.cluster_types.specs.Runs.{due};
 ghost use Rattle.cluster_types.specs.Safety.{IsAtRest};
 ghost use Rattle.cluster_types.specs.Valid.{IsValid};
 ghost use Rattle.graph_exec.specs.declared.run.stop.ReplayStop.TheVariants.{Stopped};
-ghost use Rattle.graph_exec.specs.Lasting.{SourceLasts, WatcherLasts};
+ghost use Rattle.graph_exec.specs.LastWords.{SourceLasts, WatcherLasts};
 ghost use Rattle.graph_exec.specs.Replays.{AgreesWith, IsQuietInFault, IsReplayExpected, IsShownEnd, OfMade, setting, sight};
-ghost use Rattle.graph_exec.specs.Telling.{view_between};
+ghost use Rattle.graph_exec.specs.WatcherLines.{view_between};
 ghost use Rattle.graph_exec.specs.Inner.Turns.{CameTo, RunEndsAs, Serves, left_of, part_heard, part_word};
 
 use crate::run::carrying_out::carry_out;

@@ -1,12 +1,12 @@
 //! Which answers apply.
 
 ghost use Rattle.std.specs.Prelude.{◌≡◌, ◌<◌, ◌+◌, ◌^◌, ◌++◌, ◌&&◌, nat_lt, length};
-ghost use Rattle.cluster_types.specs.Answering as answering;
+ghost use Rattle.cluster_types.specs.AnswersThatApply as answering;
 ghost use Rattle.cluster_types.specs.Journals as journals;
 ghost use Rattle.cluster_types.specs.May.{may_be_running};
 ghost use Rattle.cluster_types.specs.NodeStates.{is_online, node_state};
 ghost use Rattle.cluster_types.specs.Steps.{in_flight_by_number, journal, count_from_outside};
-ghost use Rattle.graph_exec.specs.Running.{going};
+ghost use Rattle.graph_exec.specs.Executors.{transition_in};
 
 use crate::transition::course::Course;
 use cluster_types::{Action, Answer, LeafId, NodeId, NodeState, Op, Outcome};
@@ -27,14 +27,14 @@ impl<'c> Course<'c> {
 
     /// Whether one more answer from outside may be taken.
     fn may_be_told(&self) -> bool
-        ensures { result ≡ nat_lt (count_from_outside (going self.now) self.now.since) answering.most_from_outside }
+        ensures { result ≡ nat_lt (count_from_outside (transition_in self.now) self.now.since) answering.most_from_outside }
     {
         self.log.outside() < MOST_FROM_OUTSIDE
     }
 
     /// Whether the node may be lost: it is there.
     fn may_leave(&self, node: NodeId) -> bool
-        ensures { result ≡ (nat_lt node (length self.now.cluster.nodes) && answering.is_joined_sign (journals.last_sign node (journal (going self.now) self.now.since))) }
+        ensures { result ≡ (nat_lt node (length self.now.cluster.nodes) && answering.is_joined_sign (journals.last_sign node (journal (transition_in self.now) self.now.since))) }
     {
         if !self.is_node(node) {
             return false;
@@ -44,7 +44,7 @@ impl<'c> Course<'c> {
 
     /// Whether the node may join: it is offline.
     fn may_join(&self, node: NodeId) -> bool
-        ensures { result ≡ (nat_lt node (length self.now.cluster.nodes) && answering.is_offline_state (node_state self.now.cluster node (journal (going self.now) self.now.since))) }
+        ensures { result ≡ (nat_lt node (length self.now.cluster.nodes) && answering.is_offline_state (node_state self.now.cluster node (journal (transition_in self.now) self.now.since))) }
     {
         if !self.is_node(node) {
             return false;
@@ -54,7 +54,7 @@ impl<'c> Course<'c> {
 
     /// Whether so many seconds may go by.
     fn may_pass(&self, seconds: u64) -> bool
-        ensures { result ≡ nat_lt (journals.moment_of (journal (going self.now) self.now.since) + seconds) (2 ^ 40) }
+        ensures { result ≡ nat_lt (journals.moment_of (journal (transition_in self.now) self.now.since) + seconds) (2 ^ 40) }
     {
         let moment = self.log.moment();
         if moment >= END_OF_TIME {
@@ -79,7 +79,7 @@ impl<'c> Course<'c> {
     /// Whether the cell is there, and the leaf may run on its node, which is online.
     fn may_report(&self, leaf: LeafId, node: NodeId) -> bool
         ensures { result ≡ (nat_lt node (length self.now.cluster.nodes) && nat_lt leaf (length self.now.cluster.leaves)
-            && is_online self.now.cluster node (journal (going self.now) self.now.since) && may_be_running self.now.cluster leaf node (journal (going self.now) self.now.since)) }
+            && is_online self.now.cluster node (journal (transition_in self.now) self.now.since) && may_be_running self.now.cluster leaf node (journal (transition_in self.now) self.now.since)) }
     {
         if !self.is_node(node) {
             return false;
@@ -94,7 +94,7 @@ impl<'c> Course<'c> {
     /// Whether a failed monitor of the cell says something new: the leaf may run on the node, which is online, the code is
     /// bad and not ignored, and nothing of the cell is in flight.
     fn tells_news(&self, node: NodeId, leaf: LeafId, interval_ms: u32, code: u8) -> bool
-        ensures { result ≡ answering.tells_news self.now.cluster (journal (going self.now) self.now.since) (in_flight_by_number (going self.now) self.now.since) node leaf interval_ms code }
+        ensures { result ≡ answering.tells_news self.now.cluster (journal (transition_in self.now) self.now.since) (in_flight_by_number (transition_in self.now) self.now.since) node leaf interval_ms code }
     {
         let action = self.monitor_action(leaf, node, interval_ms);
         let outcome = Outcome::Code(code);
@@ -107,8 +107,8 @@ impl<'c> Course<'c> {
 
     /// Whether the answer applies now.
     pub(crate) fn applies(&self, answer: Answer) -> bool
-        ensures { result ≡ answering.applies_after self.now.cluster (journal (going self.now) self.now.since) (in_flight_by_number (going self.now) self.now.since)
-            (count_from_outside (going self.now) self.now.since) answer }
+        ensures { result ≡ answering.applies_after self.now.cluster (journal (transition_in self.now) self.now.since) (in_flight_by_number (transition_in self.now) self.now.since)
+            (count_from_outside (transition_in self.now) self.now.since) answer }
     {
         match answer {
             Answer::End { number, .. } | Answer::Timeout { number } => {

@@ -3,7 +3,7 @@
 ghost use Rattle.std.specs.Prelude.{◌≡◌, ◌<◌, ◌≤◌, ◌+◌, ◌++◌, [], true, false, IfOk, IfErr, IfSome, IfNone, find};
 ghost use Rattle.cluster_types.specs.Steps.{aborts, in_flight_by_number, has_begun, has_room};
 ghost use Rattle.graph_exec.specs.Flights.{pairs_in_flight};
-ghost use Rattle.graph_exec.specs.Running.{BeginsNow, IsRunSettled, going};
+ghost use Rattle.graph_exec.specs.Executors.{BeginsNow, StaysSettled, transition_in};
 
 use crate::transition::flight::InFlight;
 use crate::transition::known_journal::KnownJournal;
@@ -22,10 +22,10 @@ pub(crate) struct Course<'c> {
 }
 
 impl<'c> Model for Course<'c> {
-    ghost use Rattle.graph_exec.specs.Running.{Running};
-    ghost use Rattle.graph_exec.specs.Inner.Running.{InFlightFollows, running};
+    ghost use Rattle.graph_exec.specs.Executors.{ExecutorOf};
+    ghost use Rattle.graph_exec.specs.Inner.ExecutorFields.{InFlightFollows, running};
 
-    ghost Value = { Running };
+    ghost Value = { ExecutorOf };
 
     ghost view = { λ e. running e.log e.flight };
 
@@ -79,9 +79,9 @@ impl<'c> Course<'c> {
 
     /// Lends the actions in flight.
     pub fn flight(&self) -> &InFlight
-        ensures pairs { pairs_in_flight result.now ≡ in_flight_by_number (going self.now) self.now.since }
+        ensures pairs { pairs_in_flight result.now ≡ in_flight_by_number (transition_in self.now) self.now.since }
         ensures graph { result.now.progress.graph ≡ self.now.graph }
-        ensures from_one { has_begun (going self.now) self.now.since 0 ≡ false }
+        ensures from_one { has_begun (transition_in self.now) self.now.since 0 ≡ false }
     {
         &self.flight
     }
@@ -95,7 +95,7 @@ impl<'c> Course<'c> {
 
     /// Whether fewer actions are in flight than the batch limit.
     fn has_room(&self) -> bool
-        ensures { result ≡ has_room (going self.now) self.now.since }
+        ensures { result ≡ has_room (transition_in self.now) self.now.since }
     {
         let limit = self.log.cluster().properties.batch_limit;
         limit == 0 || self.flight.count() < limit
@@ -105,7 +105,7 @@ impl<'c> Course<'c> {
     /// changes.
     pub fn begin_next(&mut self) -> Option<u32>
         ensures begins { IfSome result (λ k. BeginsNow self.old self.new k) }
-        ensures settled { IfNone result (IsRunSettled self.old self.new) }
+        ensures settled { IfNone result (StaysSettled self.old self.new) }
     {
         if self.log.abort().is_some() {
             return None;

@@ -1,7 +1,7 @@
 //! How a transition ended.
 
 ghost use Rattle.std.specs.Prelude.{◌≡◌, ◌≢◌};
-ghost use Rattle.graph_exec.specs.Watching.{watched};
+ghost use Rattle.graph_exec.specs.WatchedTransitions.{watched};
 
 use cluster_types::{Answer, Event};
 

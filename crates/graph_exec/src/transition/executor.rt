@@ -4,12 +4,12 @@ ghost use Rattle.std.specs.Prelude.{◌≡◌, ◌<◌, ◌+◌, ◌^◌, ◌++�
 ghost use Rattle.cluster_types.specs.Journals.{moment_of};
 ghost use Rattle.cluster_types.specs.Steps.{HasEnded, IsWaiting, aborts, in_flight_by_number};
 ghost use Rattle.cluster_types.specs.Valid.{KeepsLimits};
-ghost use Rattle.state_unpack.specs.CellsKept.{has_few_monitors};
+ghost use Rattle.state_unpack.specs.Knowledge.{has_few_monitors};
 ghost use Rattle.graph_exec.specs.Flights.{pairs_in_flight};
 ghost use Rattle.graph_exec.specs.Promises.{KeepsPromises};
-ghost use Rattle.graph_exec.specs.Running.{BeginsNow, IsAnswerRefused, IsRunSettled, IsUnderWay, Took, going};
-ghost use Rattle.graph_exec.specs.Inner.Running.{EndedSilently};
-ghost use Rattle.graph_exec.specs.Transitions.{EndsAs, HasGoneToEnd};
+ghost use Rattle.graph_exec.specs.Executors.{BeginsNow, IsAnswerRefused, StaysSettled, IsUnderWay, Took, transition_in};
+ghost use Rattle.graph_exec.specs.Inner.ExecutorFields.{EndedSilently};
+ghost use Rattle.graph_exec.specs.Transitions.{EndsAs, EndedByItself};
 
 use crate::transition::course::{Course, NotBegun, Parts};
 use crate::transition::ends::WatchedEnd;
@@ -37,9 +37,9 @@ pub struct Executor<'c> {
 }
 
 impl<'c> Model for Executor<'c> {
-    ghost use Rattle.graph_exec.specs.Running.{Running, IsUnderWay};
+    ghost use Rattle.graph_exec.specs.Executors.{ExecutorOf, IsUnderWay};
 
-    ghost Value = { Running };
+    ghost Value = { ExecutorOf };
 
     ghost view = { λ e. e.course };
 
@@ -98,7 +98,7 @@ impl<'c> Executor<'c> {
 
     /// Lends the actions in flight. Whatever was answered so far, the promises of a transition are kept.
     pub fn flight(&self) -> &InFlight
-        ensures pairs { pairs_in_flight result.now ≡ in_flight_by_number (going self.now) self.now.since }
+        ensures pairs { pairs_in_flight result.now ≡ in_flight_by_number (transition_in self.now) self.now.since }
         ensures promises { KeepsPromises self.now }
     {
         self.course.flight()
@@ -115,7 +115,7 @@ impl<'c> Executor<'c> {
     /// changes.
     pub fn begin_next(&mut self) -> Option<u32>
         ensures begins { IfSome result (λ k. BeginsNow self.old self.new k) }
-        ensures settled { IfNone result (IsRunSettled self.old self.new) }
+        ensures settled { IfNone result (StaysSettled self.old self.new) }
         ensures under_way { IsUnderWay self.new }
     {
         self.course.begin_next()
@@ -124,7 +124,7 @@ impl<'c> Executor<'c> {
     /// Takes an answer, where none may begin and something is in flight. One that doesn't apply is handed back, and nothing
     /// changes.
     pub fn take(&mut self, answer: Answer) -> Result<(), Unexpected>
-        requires { IsWaiting (going self.old) self.old.since }
+        requires { IsWaiting (transition_in self.old) self.old.since }
         ensures ok { OnOk result (Took self.old self.new answer) }
         ensures err { OnErr result (IsAnswerRefused self.old self.new answer) }
         ensures answer { IfErr result (λ refused. refused.answer ≡ answer) }
@@ -136,7 +136,7 @@ impl<'c> Executor<'c> {
     /// Nothing more is said, where none may begin and something is in flight: the first action in flight ends with its
     /// silent code. The answer that would say so is given.
     pub(crate) fn end_silently(&mut self) -> Answer
-        requires { IsWaiting (going self.old) self.old.since }
+        requires { IsWaiting (transition_in self.old) self.old.since }
         ensures ended { EndedSilently self.old self.new result }
         ensures under_way { IsUnderWay self.new }
     {
@@ -145,9 +145,9 @@ impl<'c> Executor<'c> {
 
     /// How the transition has ended, where none may begin and nothing is in flight.
     pub(crate) fn end(&self) -> WatchedEnd
-        requires { HasEnded (going self.now) self.now.since }
+        requires { HasEnded (transition_in self.now) self.now.since }
         ensures ends { EndsAs self.now result }
-        ensures done { HasGoneToEnd result }
+        ensures done { EndedByItself result }
     {
         match self.course.abort() {
             Some(event) => WatchedEnd::Aborted(event),

@@ -2,9 +2,9 @@
 
 ghost use Rattle.std.specs.Prelude.{◌≡◌, ◌<◌, ◌≤◌, ◌-◌, true, false, Some, IfOk, IfErr, length, slice_get, replicate};
 ghost use Rattle.std.specs.List.{list_any};
-ghost use Rattle.cluster_types.specs.Answering.{is_number_of};
+ghost use Rattle.cluster_types.specs.AnswersThatApply.{is_number_of};
 ghost use Rattle.listed.specs.Sets.{is_member};
-ghost use Rattle.graph_exec.specs.Ready.{none_begun, startable};
+ghost use Rattle.graph_exec.specs.ReadyActions.{none_begun, startable};
 ghost use Rattle.graph_exec.specs.Flights.{pairs_in_flight};
 ghost use Rattle.graph_exec.specs.Inner.Flights.{is_about, is_busy, with_begun, with_ended};
 

@@ -2,9 +2,9 @@
 
 ghost use Rattle.std.specs.Prelude.{◌≡◌, ◌<◌, ◌^◌, true, length, IfOk, IfErr};
 ghost use Rattle.cluster_types.specs.Journals.{moment_of};
-ghost use Rattle.cluster_types.specs.Unpacked.{states_of};
+ghost use Rattle.cluster_types.specs.UnpackedStates.{states_of};
 ghost use Rattle.cluster_types.specs.Valid.{KeepsLimits};
-ghost use Rattle.state_unpack.specs.CellsKept.{has_few_monitors};
+ghost use Rattle.state_unpack.specs.Knowledge.{has_few_monitors};
 
 use cluster_types::{Cluster, Event, Journal, NoMemory, Promotion, States};
 use listed::Listed;
@@ -23,10 +23,10 @@ pub struct KnownJournal<'c> {
 }
 
 impl<'c> Model for KnownJournal<'c> {
-    ghost use Rattle.graph_exec.specs.Logs.{JournalOf};
+    ghost use Rattle.graph_exec.specs.KnownJournals.{KnownJournalOf};
     ghost use Rattle.graph_exec.specs.Inner.Logs.{IsLogTold, log_journal};
 
-    ghost Value = { JournalOf };
+    ghost Value = { KnownJournalOf };
 
     ghost view = { λ j. log_journal j.cluster.now j.events.items j.promotions };
 

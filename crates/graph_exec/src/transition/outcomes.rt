@@ -11,7 +11,7 @@ ghost use Rattle.graph_exec.specs.Flights.{pairs_in_flight};
 ghost use Rattle.graph_exec.specs.declared.transition.outcomes.Next.{Next as NextOf};
 ghost use Rattle.graph_exec.specs.declared.transition.outcomes.Next.TheVariants as says;
 ghost use Rattle.graph_exec.specs.Counts.{CountsAnswer, RoseByOne};
-ghost use Rattle.graph_exec.specs.Saying.{AgreesAfter, GivesNext, IsFitting, IsOverBy};
+ghost use Rattle.graph_exec.specs.SourceDuties.{AgreesAfter, GivesNext, IsFitting, IsOverBy};
 
 use crate::transition::flight::InFlight;
 use cluster_types::{Action, Answer};

@@ -2,10 +2,10 @@
 
 ghost use Rattle.std.specs.Prelude.{◌≡◌, ◌≤◌, ◌+◌, true, length};
 ghost use Rattle.graph_exec.specs.Counts.{IsAbortAnswered};
-ghost use Rattle.graph_exec.specs.Lasting.{SourceLasts, WatcherLasts, transition_word};
+ghost use Rattle.graph_exec.specs.LastWords.{SourceLasts, WatcherLasts, transition_word};
 ghost use Rattle.graph_exec.specs.Promises.{EndsWell, KeepsPromises};
-ghost use Rattle.graph_exec.specs.Transitions.{Accords, EndsAs, GoneTo, HasSaidAll, IsExpected};
-ghost use Rattle.graph_exec.specs.Watching.{Hears, IsQuietAt, IsShownAll, heard_at, watched};
+ghost use Rattle.graph_exec.specs.Transitions.{Accords, EndsAs, WentByEnd, HasSaidAll, IsExpected};
+ghost use Rattle.graph_exec.specs.WatchedTransitions.{Hears, IsQuietAt, IsShownAll, heard_at, watched};
 
 use crate::transition::ends::{End, WatchedEnd, without_watcher};
 use crate::transition::executor::Executor;
@@ -22,7 +22,7 @@ pub fn run_watched<S: Outcomes, V: Watcher>(
     watcher: &mut V,
 ) -> WatchedEnd
     // What happened.
-    ensures steps { GoneTo (S.whole outcomes.old) executor.old executor.new (S.rest outcomes.old) (S.rest outcomes.new) result }
+    ensures steps { WentByEnd (S.whole outcomes.old) executor.old executor.new (S.rest outcomes.old) (S.rest outcomes.new) result }
     ensures end { EndsAs executor.new result }
     ensures promises { KeepsPromises executor.new }
     ensures well { EndsWell executor.new result }
@@ -59,7 +59,7 @@ pub fn run_watched<S: Outcomes, V: Watcher>(
 /// Carries the transition out to its end: all that may begin, begins before an answer is taken. After `Unexpected` or
 /// `SourceFault` the executor holds the steps so far, and a further call goes on from there. It takes no memory.
 pub fn run_transition<S: Outcomes>(executor: &mut Executor<'_>, outcomes: &mut S) -> End
-    ensures steps { GoneTo (S.whole outcomes.old) executor.old executor.new (S.rest outcomes.old) (S.rest outcomes.new) (watched result) }
+    ensures steps { WentByEnd (S.whole outcomes.old) executor.old executor.new (S.rest outcomes.old) (S.rest outcomes.new) (watched result) }
     ensures end { EndsAs executor.new (watched result) }
     ensures promises { KeepsPromises executor.new }
     ensures well { EndsWell executor.new (watched result) }

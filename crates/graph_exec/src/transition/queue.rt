@@ -1,7 +1,7 @@
 ghost use Rattle.std.specs.Prelude.{◌≡◌, ◌<◌, ◌≤◌, ◌+◌, ◌-◌, ◌++◌, ◌∷◌, [], ℕ, true, false, IfOk, length, replicate, slice_index_or, slice_set, vec_len, vec_capacity};
 ghost use Rattle.cluster_types.specs.Graphs.{IsGraph};
 ghost use Rattle.edges.specs.Inner.Clearing.{less_one};
-ghost use Rattle.graph_exec.specs.Inner.Freed.{ClearsGates, gates_cleared_then, ready_then};
+ghost use Rattle.graph_exec.specs.Inner.ClearedPositions.{ClearsGates, gates_cleared_then, ready_then};
 ghost use Rattle.edges.specs.Rows.{edge_targets};
 
 use crate::transition::roots::first_free;

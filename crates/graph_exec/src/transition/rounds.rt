@@ -3,12 +3,13 @@
 ghost use Rattle.std.specs.Prelude.{◌≡◌, ◌⊎◌, ◌<◌, ◌≤◌, ◌+◌, [], true, false, None, IfSome, IfNone, IfOk, IfErr, OnOk, unwrap_or};
 ghost use Rattle.cluster_types.specs.Steps.{IsWaiting, is_settled};
 ghost use Rattle.graph_exec.specs.Counts.{IsAbortAnswered};
-ghost use Rattle.graph_exec.specs.Lasting.{SourceLasts, WatcherLasts, none_failed};
+ghost use Rattle.graph_exec.specs.LastWords.{SourceLasts, WatcherLasts, none_failed};
 ghost use Rattle.graph_exec.specs.Inner.Rounds.{Advanced, Answered, StopsAs, asked_word, asks_left, begins_left, round_word};
-ghost use Rattle.graph_exec.specs.Running.{IsUnderWay, Went, going};
-ghost use Rattle.graph_exec.specs.Transitions.{Accords, EndsAs, GoneTo, HasGoneToEnd, IsExpected, WentAsSaid};
-ghost use Rattle.graph_exec.specs.Telling.{RunView};
-ghost use Rattle.graph_exec.specs.Watching.{Hears, IsQuietAt, IsShownAll, heard_in};
+ghost use Rattle.graph_exec.specs.Executors.{IsUnderWay, Went, transition_in};
+ghost use Rattle.graph_exec.specs.Transitions.{Accords, EndsAs, WentByEnd, EndedByItself, IsExpected, WentAsSaid};
+ghost use Rattle.graph_exec.specs.WatcherLines.{RunView};
+ghost use Rattle.graph_exec.specs.WatchedTransitions.{Hears, IsQuietAt, IsShownAll};
+ghost use Rattle.graph_exec.specs.Inner.LastHeard.{heard_in};
 
 use crate::transition::ends::WatchedEnd;
 use crate::transition::executor::Executor;
@@ -41,7 +42,7 @@ impl<'c> Executor<'c> {
         ensures went { Went (S.whole outcomes.old) self.old self.new (S.rest outcomes.old) (S.rest outcomes.new) }
         ensures said { WentAsSaid self.old self.new (S.rest outcomes.old) (S.rest outcomes.new) }
         ensures on { IfSome result (λ heard. begins_left self.new < begins_left self.old) }
-        ensures settled { IfNone result (is_settled (going self.new) self.new.since ≡ true) }
+        ensures settled { IfNone result (is_settled (transition_in self.new) self.new.since ≡ true) }
         ensures asks { asks_left self.new ≤ asks_left self.old }
         ensures under_way { IsUnderWay self.new }
 
@@ -71,7 +72,7 @@ impl<'c> Executor<'c> {
     ) -> Heard
         ensures went { Went (S.whole outcomes.old) self.old self.new (S.rest outcomes.old) (S.rest outcomes.new) }
         ensures said { WentAsSaid self.old self.new (S.rest outcomes.old) (S.rest outcomes.new) }
-        ensures settled { result ≡ Heard.Go → is_settled (going self.new) self.new.since ≡ true }
+        ensures settled { result ≡ Heard.Go → is_settled (transition_in self.new) self.new.since ≡ true }
         ensures asks { asks_left self.new ≤ asks_left self.old }
         ensures under_way { IsUnderWay self.new }
 
@@ -103,7 +104,7 @@ impl<'c> Executor<'c> {
         outcomes: &mut S,
         watcher: &V,
     ) -> Result<Answer, WatchedEnd>
-        requires waiting { IsWaiting (going self.old) self.old.since }
+        requires waiting { IsWaiting (transition_in self.old) self.old.since }
         requires in_time { S.at_hand outcomes.old ⊎ V.quiet watcher.now }
         ensures answered { IfOk result (Answered (S.whole outcomes.old) self.old self.new (S.rest outcomes.old) (S.rest outcomes.new)) }
         ensures stops { IfErr result (StopsAs (S.whole outcomes.old) self.old self.new (S.rest outcomes.old) (S.rest outcomes.new)) }
@@ -136,12 +137,12 @@ impl<'c> Executor<'c> {
         outcomes: &mut S,
         watcher: &mut V,
     ) -> Option<WatchedEnd>
-        requires waiting { IsWaiting (going self.old) self.old.since }
+        requires waiting { IsWaiting (transition_in self.old) self.old.since }
         requires under_way { IsUnderWay self.old }
         ensures on { IfNone result (Advanced (S.whole outcomes.old) self.old self.new (S.rest outcomes.old) (S.rest outcomes.new)) }
-        ensures steps { IfSome result (GoneTo (S.whole outcomes.old) self.old self.new (S.rest outcomes.old) (S.rest outcomes.new)) }
+        ensures steps { IfSome result (WentByEnd (S.whole outcomes.old) self.old self.new (S.rest outcomes.old) (S.rest outcomes.new)) }
         ensures end { IfSome result (EndsAs self.new) }
-        ensures going { IfSome result (λ end. ¬ HasGoneToEnd end) }
+        ensures going { IfSome result (λ end. ¬ EndedByItself end) }
         ensures under_way { IsUnderWay self.new }
 
         ensures source { SourceLasts S.Outcomes outcomes.old outcomes.new (round_word result) }

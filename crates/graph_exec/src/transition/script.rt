@@ -2,7 +2,7 @@
 
 ghost use Rattle.std.specs.Prelude.{◌≡◌, ◌≢◌, ◌+◌, ◌<◌, ◌^◌, true, false, Some, length, slice_get};
 ghost use Rattle.graph_exec.specs.Counts.{RoseByOne};
-ghost use Rattle.graph_exec.specs.Saying.{GivesNext, taken_by};
+ghost use Rattle.graph_exec.specs.SourceDuties.{GivesNext, taken_by};
 
 use crate::transition::flight::InFlight;
 use crate::transition::outcomes::{Next, Outcomes};

@@ -1,10 +1,10 @@
 //! An answer is taken, or nothing more is said.
 
 ghost use Rattle.std.specs.Prelude.{◌≡◌, ◌++◌, true, OnOk, OnErr, IfErr};
-ghost use Rattle.cluster_types.specs.Answering.{applies_after};
+ghost use Rattle.cluster_types.specs.AnswersThatApply.{applies_after};
 ghost use Rattle.cluster_types.specs.Steps.{IsWaiting, answer_events, in_flight_by_number, journal, count_from_outside};
-ghost use Rattle.graph_exec.specs.Running.{IsAnswerRefused, Took, going, later};
-ghost use Rattle.graph_exec.specs.Inner.Running.{EndedSilently};
+ghost use Rattle.graph_exec.specs.Executors.{IsAnswerRefused, Took, transition_in, later};
+ghost use Rattle.graph_exec.specs.Inner.ExecutorFields.{EndedSilently};
 
 use crate::transition::course::Course;
 use crate::transition::meaning::silent_code;
@@ -19,9 +19,9 @@ pub struct Unexpected {
 impl<'c> Course<'c> {
     /// Enters what the answer adds, which applies.
     pub(crate) fn enter(&mut self, answer: Answer)
-        requires { applies_after self.old.cluster (journal (going self.old) self.old.since) (in_flight_by_number (going self.old) self.old.since)
-            (count_from_outside (going self.old) self.old.since) answer ≡ true }
-        ensures { self.new ≡ later self.old (answer_events (going self.old) self.old.since answer) }
+        requires { applies_after self.old.cluster (journal (transition_in self.old) self.old.since) (in_flight_by_number (transition_in self.old) self.old.since)
+            (count_from_outside (transition_in self.old) self.old.since) answer ≡ true }
+        ensures { self.new ≡ later self.old (answer_events (transition_in self.old) self.old.since answer) }
     {
         match answer {
             Answer::End { number, code } => self.end(number, Outcome::Code(code)),
@@ -51,7 +51,7 @@ impl<'c> Course<'c> {
     /// Takes an answer, where none may begin and something is in flight. One that doesn't apply is handed back, and nothing
     /// changes.
     pub(crate) fn take(&mut self, answer: Answer) -> Result<(), Unexpected>
-        requires { IsWaiting (going self.old) self.old.since }
+        requires { IsWaiting (transition_in self.old) self.old.since }
         ensures ok { OnOk result (Took self.old self.new answer) }
         ensures err { OnErr result (IsAnswerRefused self.old self.new answer) }
         ensures answer { IfErr result (λ refused. refused.answer ≡ answer) }
@@ -66,7 +66,7 @@ impl<'c> Course<'c> {
     /// Nothing more is said, where none may begin and something is in flight: the first action in flight ends with its
     /// silent code. The answer that would say so is given.
     pub(crate) fn end_silently(&mut self) -> Answer
-        requires { IsWaiting (going self.old) self.old.since }
+        requires { IsWaiting (transition_in self.old) self.old.since }
         ensures { EndedSilently self.old self.new result }
     {
         let (number, action) = self.flight().at(0);

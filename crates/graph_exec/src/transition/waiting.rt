@@ -1,6 +1,6 @@
 ghost use Rattle.std.specs.Prelude.{◌≡◌, ◌<◌, ◌≤◌, ◌-◌, true, false, Option, Some, None, IfOk, IfErr, length, slice_get, slice_set, replicate};
 ghost use Rattle.listed.specs.Sets.{is_member};
-ghost use Rattle.graph_exec.specs.Ready.{Progress, none_begun, startable};
+ghost use Rattle.graph_exec.specs.ReadyActions.{Progress, none_begun, startable};
 
 use crate::transition::queue::Queue;
 use cluster_types::Graph;
@@ -20,8 +20,8 @@ pub struct Waiting {
 
 impl Model for Waiting {
     ghost use Rattle.std.specs.Prelude.{vec_capacity};
-    ghost use Rattle.graph_exec.specs.Inner.Freed.{ClearingRests};
-    ghost use Rattle.graph_exec.specs.Ready.{Progress};
+    ghost use Rattle.graph_exec.specs.Inner.ClearedPositions.{ClearingRests};
+    ghost use Rattle.graph_exec.specs.ReadyActions.{Progress};
 
     ghost Value = { Progress };
 

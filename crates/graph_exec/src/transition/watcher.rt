@@ -10,12 +10,12 @@ ghost use Rattle.cluster_types.specs.declared.journal.Event.TheVariants.{Begin};
 ghost use Rattle.cluster_types.specs.declared.journal.Promotion.{Promotion as PromotionOf};
 ghost use Rattle.cluster_types.specs.declared.run.RunLine.{RunLine as LineOf};
 ghost use Rattle.cluster_types.specs.declared.run.RunLine.TheVariants as line;
-ghost use Rattle.cluster_types.specs.Answering.{added_by, applies_after};
+ghost use Rattle.cluster_types.specs.AnswersThatApply.{added_by, applies_after};
 ghost use Rattle.cluster_types.specs.Journals.{AreInFlightByNumber};
 ghost use Rattle.cluster_types.specs.Plans.{IsPlan};
 ghost use Rattle.cluster_types.specs.Texts.{event_lines};
 ghost use Rattle.graph_exec.specs.declared.transition.watcher.Heard.{Heard as HeardOf};
-ghost use Rattle.graph_exec.specs.Telling.{ReasonsHaveNames, RunView, StopsAmong, closing_line, plan_lines, view_action, view_amid, view_between, view_later};
+ghost use Rattle.graph_exec.specs.WatcherLines.{ReasonsHaveNames, RunView, StopsAmong, closing_line, plan_lines, view_action, view_amid, view_between, view_later};
 
 use cluster_types::{Action, Answer, Placed};
 

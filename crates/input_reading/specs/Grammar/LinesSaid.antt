@@ -14,7 +14,7 @@ use Rattle.input_reading.specs.declared.history_fault.StatusCause.{StatusCause}
 use Rattle.input_reading.specs.declared.history_fault.StatusCause.TheVariants as of_status
 use Rattle.input_reading.specs.declared.results.result_lines.ResultLine.{ResultLine}
 use Rattle.input_reading.specs.declared.run.text.RunTextLine.{RunTextLine}
-use Rattle.input_reading.specs.declared.status.line_meaning.Told.{Told}
+use Rattle.input_reading.specs.declared.status.line_meaning.Fact.{Fact}
 use Rattle.input_reading.specs.declared.words.word_cause.WordCause.{WordCause}
 use Rattle.input_reading.specs.FirstJournal.{is_repeated, journal_of}
 use Rattle.input_reading.specs.Grammar.ResultForms.{ResultSays}
@@ -46,22 +46,23 @@ AsLinesSay Says Refused (Err (At number cause)) = Refused number cause
 AsLinesSay Says Refused (Err NoMemory) = Unit {0}
 
 -- a line of a status says a fact, and not again what may be said once
-pub record StatusLineSays (c : Cluster) (before : List Told) (line : Line) (told : Told) : Type 0 where
+pub record StatusLineSays (c : Cluster) (before : List Fact) (line : Line) (told : Fact) : Type 0 where
   pub says : StatusSays c line.words told
   pub once : is_repeated before told ≡ false
 
 -- no form has the words of a line of a status (which cause of words that is, isn't told here); or the line says again what
 -- may be said once
-pub data StatusLineRefused (c : Cluster) (before : List Told) (line : Line) : StatusCause → Type 0 where
-  no_status_form : (cause : WordCause) → ((told : Told) → StatusSays c line.words told → ⊥) → StatusLineRefused c before line (of_status.Form cause)
-  said_before : (told : Told) → StatusSays c line.words told → is_repeated before told ≡ true → StatusLineRefused c before line of_status.Repeated
+pub data StatusLineRefused (c : Cluster) (before : List Fact) (line : Line) : StatusCause → Type 0 where
+  no_status_form : (cause : WordCause) → ((told : Fact) → StatusSays c line.words told → ⊥) → StatusLineRefused c before line (of_status.Form cause)
+  said_before : (told : Fact) → StatusSays c line.words told → is_repeated before told ≡ true → StatusLineRefused c before line of_status.Repeated
 
 -- the journal is that of the facts which the lines of a status say
 pub record StatusIsSaid (c : Cluster) (lines : List Line) (journal : Journal) : Type 0 where
-  pub facts : List Told
+  pub facts : List Fact
   pub said : EachLineSays (StatusLineSays c) lines facts
   pub is : journal ≡ journal_of c facts
 
+-- the line of this number is the first of a status that is refused
 abbrev pub IsStatusRefused : Cluster → List Line → ℕ → StatusCause → Type 0
 IsStatusRefused c = IsFirstRefused (StatusLineSays c) (StatusLineRefused c)
 
@@ -88,9 +89,11 @@ pub record ResultLineSays (c : Cluster) (start : ℕ) (before : List ResultLine)
 abbrev pub ResultLineRefused : Cluster → ℕ → List ResultLine → Line → ResultCause → Type 0
 ResultLineRefused c start before line = IsNoAnswer c (moment_after start before) (length before) line.words
 
+-- the result lines say these results, one after another, from a moment on
 abbrev pub ResultsAreSaid : Cluster → ℕ → List Line → List ResultLine → Type 0
 ResultsAreSaid c start = EachLineSays (ResultLineSays c start)
 
+-- the line of this number is the first result line that is refused
 abbrev pub AreResultsRefused : Cluster → ℕ → List Line → ℕ → ResultCause → Type 0
 AreResultsRefused c start = IsFirstRefused (ResultLineSays c start) (ResultLineRefused c start)
 
@@ -103,8 +106,10 @@ pub record RunLineSays (c : Cluster) (before : List RunTextLine) (line : Line) (
 abbrev pub RunLineRefused : Cluster → List RunTextLine → Line → WordCause → Type 0
 RunLineRefused c before line cause = (what : RunLine) → RunSays c line.words what → ⊥
 
+-- each line of a run says what is read of it
 abbrev pub RunIsSaid : Cluster → List Line → List RunTextLine → Type 0
 RunIsSaid c = EachLineSays (RunLineSays c)
 
+-- the line of this number is the first of a run that is refused
 abbrev pub IsRunRefused : Cluster → List Line → ℕ → WordCause → Type 0
 IsRunRefused c = IsFirstRefused (RunLineSays c) (RunLineRefused c)

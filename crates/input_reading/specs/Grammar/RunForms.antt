@@ -16,7 +16,7 @@ use Rattle.cluster_types.specs.declared.placement.Target.{Target}
 use Rattle.cluster_types.specs.declared.placement.Target.TheVariants as target
 use Rattle.cluster_types.specs.declared.run.RunLine.{RunLine}
 use Rattle.cluster_types.specs.declared.run.RunLine.TheVariants as line
-use Rattle.cluster_types.specs.Answering.{monitor_action}
+use Rattle.cluster_types.specs.AnswersThatApply.{monitor_action}
 use Rattle.input_reading.specs.Grammar.ResultForms.{ResultSays}
 use Rattle.input_reading.specs.Grammar.WordValues.{NamesLeaf, NamesNode, WritesPositive}
 

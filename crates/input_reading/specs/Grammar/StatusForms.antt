@@ -10,12 +10,12 @@ use Rattle.cluster_types.specs.declared.journal.Outcome.{Outcome}
 use Rattle.cluster_types.specs.declared.journal.Outcome.TheVariants.{Code, TimedOut}
 use Rattle.cluster_types.specs.declared.leaf.Op.TheVariants.{Start, Stop, Promote, Demote}
 use Rattle.cluster_types.specs.declared.leaf.Role.TheVariants.{Started}
-use Rattle.cluster_types.specs.Answering.{monitor_action}
+use Rattle.cluster_types.specs.AnswersThatApply.{monitor_action}
 use Rattle.cluster_types.specs.Fields.{is_promotable}
 use Rattle.input_reading.specs.declared.status.line_meaning.NodeWord.{NodeWord}
 use Rattle.input_reading.specs.declared.status.line_meaning.NodeWord.TheVariants.{Online, Offline, Unclean}
-use Rattle.input_reading.specs.declared.status.line_meaning.Told.{Told}
-use Rattle.input_reading.specs.declared.status.line_meaning.Told.TheVariants.{Now, Quorum, Node, Past, Promoting}
+use Rattle.input_reading.specs.declared.status.line_meaning.Fact.{Fact}
+use Rattle.input_reading.specs.declared.status.line_meaning.Fact.TheVariants.{Now, Quorum, Node, Past, Promoting}
 use Rattle.input_reading.specs.Grammar.WordValues.{NamesLeaf, NamesNode, SaysWhether, WritesCode, WritesNumber, WritesPositive, WritesSeconds}
 
 -- the state of a node
@@ -44,7 +44,7 @@ pub data SaysOutcome : List ℕ → Outcome → Type 0 where
   exited : (word : List ℕ) (code : ℕ) → WritesCode word code → SaysOutcome word (Code code)
 
 -- what the words of a line of a status say of a cluster
-pub data StatusSays (c : Cluster) : List (List ℕ) → Told → Type 0 where
+pub data StatusSays (c : Cluster) : List (List ℕ) → Fact → Type 0 where
   now_form : (number : List ℕ) (seconds : ℕ) → WritesSeconds number seconds → StatusSays c (codes "now" ∷ number ∷ []) (Now seconds)
   quorum_form : (word : List ℕ) (quorate : Bool) → SaysWhether word quorate → StatusSays c (codes "quorum" ∷ word ∷ []) (Quorum quorate)
   node_form : (name word : List ℕ) (node : ℕ) (state : NodeWord) → NamesNode c name node → SaysState word state

@@ -78,17 +78,18 @@ pub data IsInputRefused (text : List ℕ) (number : ℕ) : InputCause → Type 0
       → IsInputRefused text number (cause.Results why)
 
 -- the same of a head that stands alone
-abbrev pub StartIsSaid : List ℕ → Head → Type 0
-StartIsSaid text head = IsHeadSaid sections_of (λ head lines. Unit {0}) text head
+abbrev pub LoneHeadIsSaid : List ℕ → Head → Type 0
+LoneHeadIsSaid text head = IsHeadSaid sections_of (λ head lines. Unit {0}) text head
 
-abbrev pub IsStartRefused : List ℕ → ℕ → InputCause → Type 0
-IsStartRefused text = IsHeadRefused sections_of text
+abbrev pub IsLoneHeadRefused : List ℕ → ℕ → InputCause → Type 0
+IsLoneHeadRefused text = IsHeadRefused sections_of text
 
 -- and of a text with a trace: behind the status stand the lines of a run (their place is kept as that of results). Of the number behind the last line, which a
 -- trace has too, nothing is said here; trace_of says it
 abbrev pub TraceIsSaid : List ℕ → Trace → Type 0
 TraceIsSaid text trace = IsHeadSaid sections_with_trace (λ head lines. RunIsSaid head.cluster lines trace.run.lines) text trace.head
 
+-- a line of the head is refused, or the head is said and a line of the run is refused
 pub data IsTraceLineRefused (text : List ℕ) (number : ℕ) : InputCause → Type 0 where
   trace_head_refused : (why : InputCause) → IsHeadRefused sections_with_trace text number why → IsTraceLineRefused text number why
   run_line_refused : (head : Head) (why : WordCause) → IsHeadSaid sections_with_trace (λ head lines. IsRunRefused head.cluster lines number why) text head

@@ -12,10 +12,11 @@ ghost use Rattle.input_reading.specs.FirstJournal.{status_journal};
 ghost use Rattle.input_reading.specs.Results.{most_results, results_of};
 ghost use Rattle.faults.specs.Reading.{Gives, faulting};
 ghost use Rattle.input_reading.specs.declared.input.cause.InputCause.TheVariants as cause;
-ghost use Rattle.input_reading.specs.Reading.{AreStated, configuration_of, head_of, input_of, input_with, line_behind, most_bytes, nothing_yet, start_of, status_and_results, with_cluster, with_results};
-ghost use Rattle.input_reading.specs.Sections.{sections_by};
+ghost use Rattle.input_reading.specs.Reading.{configuration_of, head_of, input_of, line_behind, most_bytes, nothing_yet, lone_head_of, behind_cluster, with_results};
+ghost use Rattle.input_reading.specs.Inner.Reading.{AreStated, input_with, status_and_results};
+ghost use Rattle.input_reading.specs.Inner.Sections.{sections_by};
 ghost use Rattle.input_reading.specs.Grammar.LinesSaid.{AsLinesSay};
-ghost use Rattle.input_reading.specs.Grammar.TextsSaid.{InputIsSaid, IsInputRefused, IsStartRefused, StartIsSaid};
+ghost use Rattle.input_reading.specs.Grammar.TextsSaid.{InputIsSaid, IsInputRefused, IsLoneHeadRefused, LoneHeadIsSaid};
 
 use crate::input::cause::InputCause;
 use crate::input::fault::InputFault;
@@ -137,7 +138,7 @@ fn results_in(
 }
 
 /// What the lines of the status and the result lines tell of a cluster. Its names are made once for both.
-#[tactic(auto, unfolding(crate::specs::Reading::status_and_results))]
+#[tactic(auto, unfolding(crate::specs::Inner::Reading::status_and_results))]
 fn status_and_results(
     alloc: Global,
     cluster: &Cluster,
@@ -208,11 +209,15 @@ fn input_with(
 }
 
 /// Reads the other sections, where the configuration says this cluster.
-fn with_cluster(alloc: Global, found: Configuration, cluster: Cluster) -> Result<Input, InputFault>
+fn behind_cluster(
+    alloc: Global,
+    found: Configuration,
+    cluster: Cluster,
+) -> Result<Input, InputFault>
     requires valid { IsValid cluster }
     requires results { found.marks.results_at ≤ length found.lines }
     requires end { found.marks.end ≤ length found.lines }
-    ensures input { Gives (λ input. input) result (with_cluster with_results found cluster) }
+    ensures input { Gives (λ input. input) result (behind_cluster with_results found cluster) }
     ensures moment { IfOk result (λ input. moment_of input.head.journal.events < 2 ^ 40) }
 {
     let Configuration {
@@ -251,7 +256,7 @@ pub(crate) fn cluster_in(alloc: Global, found: &Configuration) -> Result<Cluster
 fn with_status(alloc: Global, found: Configuration, cluster: Cluster) -> Result<Head, InputFault>
     requires valid { IsValid cluster }
     requires results { found.marks.results_at ≤ length found.lines }
-    ensures head { Gives (λ head. head) result (with_cluster nothing_yet found cluster) }
+    ensures head { Gives (λ head. head) result (behind_cluster nothing_yet found cluster) }
     ensures moment { IfOk result (λ head. moment_of head.journal.events < 2 ^ 40) }
 {
     let Configuration {
@@ -266,10 +271,10 @@ fn with_status(alloc: Global, found: Configuration, cluster: Cluster) -> Result<
 }
 
 /// All steps but the last, one after the other.
-#[tactic(auto, unfolding(crate::specs::Reading::start_of))]
-fn start_of(alloc: Global, text: Vec<u8>) -> Result<Head, InputFault>
+#[tactic(auto, unfolding(crate::specs::Reading::lone_head_of))]
+fn lone_head_of(alloc: Global, text: Vec<u8>) -> Result<Head, InputFault>
     requires { length text.items ≤ most_bytes }
-    ensures head { Gives (λ head. head) result (start_of text.items) }
+    ensures head { Gives (λ head. head) result (lone_head_of text.items) }
     ensures moment { IfOk result (λ head. moment_of head.journal.events < 2 ^ 40) }
 {
     let found = configuration_of(alloc, LastSection::Results, text)?;
@@ -278,15 +283,15 @@ fn start_of(alloc: Global, text: Vec<u8>) -> Result<Head, InputFault>
 }
 
 /// Reads the head of an input that stands alone, of at most 16,777,216 bytes, as `read_input` reads a whole input.
-pub fn read_start(alloc: Global, text: Vec<u8>) -> Result<Head, InputFault>
+pub fn read_lone_head(alloc: Global, text: Vec<u8>) -> Result<Head, InputFault>
     requires { length text.items ≤ most_bytes }
-    ensures read { Gives (λ head. head) result (start_of text.items) }
-    ensures said { AsLinesSay (StartIsSaid text.items) (IsStartRefused text.items) result }
+    ensures read { Gives (λ head. head) result (lone_head_of text.items) }
+    ensures said { AsLinesSay (LoneHeadIsSaid text.items) (IsLoneHeadRefused text.items) result }
     ensures valid { IfOk result (λ head. IsValid head.cluster) }
     ensures at_rest { IfOk result (λ head. IsAtRest head.journal.events) }
     ensures moment { IfOk result (λ head. moment_of head.journal.events < 2 ^ 40) }
 {
-    start_of(alloc, text)
+    lone_head_of(alloc, text)
 }
 
 /// All steps, one after the other.
@@ -298,7 +303,7 @@ fn input_of(alloc: Global, text: Vec<u8>) -> Result<Input, InputFault>
 {
     let found = configuration_of(alloc, LastSection::Results, text)?;
     let cluster = cluster_in(alloc, &found)?;
-    with_cluster(alloc, found, cluster)
+    behind_cluster(alloc, found, cluster)
 }
 
 /// Reads a whole input of at most 16,777,216 bytes (crmsh manual, `configure`; the status, the results and the order of the steps

@@ -4,7 +4,8 @@ ghost use Rattle.std.specs.Prelude.{◌≡◌, ◌+◌, ◌<◌, ◌≤◌, ◌^
 ghost use Rattle.crm_parse.specs.Marks.{sections_of};
 ghost use Rattle.faults.specs.Reading.{Gives, faulting};
 ghost use Rattle.input_reading.specs.declared.input.cause.InputCause.TheVariants as cause;
-ghost use Rattle.input_reading.specs.Sections.{sections_by, sections_with_trace};
+ghost use Rattle.input_reading.specs.Sections.{sections_with_trace};
+ghost use Rattle.input_reading.specs.Inner.Sections.{sections_by};
 
 use crate::input::cause::InputCause;
 use crate::input::fault::InputFault;

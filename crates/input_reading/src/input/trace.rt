@@ -6,12 +6,12 @@ ghost use Rattle.cluster_types.specs.Safety.{IsAtRest};
 ghost use Rattle.cluster_types.specs.Valid.{IsValid};
 ghost use Rattle.faults.specs.Reading.{Gives, faulting};
 ghost use Rattle.input_reading.specs.declared.input.cause.InputCause.TheVariants as cause;
-ghost use Rattle.input_reading.specs.Reading.{line_behind, most_bytes, with_cluster};
+ghost use Rattle.input_reading.specs.Reading.{line_behind, most_bytes, behind_cluster};
 ghost use Rattle.input_reading.specs.Traces.{trace_of, with_run};
 ghost use Rattle.input_reading.specs.RunReading.{read_run_lines};
 ghost use Rattle.input_reading.specs.Grammar.LinesSaid.{AsLinesSay};
 ghost use Rattle.input_reading.specs.Grammar.TextsSaid.{IsTraceLineRefused, TraceIsSaid};
-ghost use Rattle.input_reading.specs.Written.{AreNamed};
+ghost use Rattle.input_reading.specs.PrintedLines.{AreNamed};
 
 use crate::input::cause::InputCause;
 use crate::input::fault::InputFault;
@@ -66,12 +66,16 @@ fn with_run(alloc: Global, after: u32, head: Head, lines: &[Line]) -> Result<Tra
 }
 
 /// Reads the other sections, where the configuration says this cluster.
-fn with_cluster(alloc: Global, found: Configuration, cluster: Cluster) -> Result<Trace, InputFault>
+fn behind_cluster(
+    alloc: Global,
+    found: Configuration,
+    cluster: Cluster,
+) -> Result<Trace, InputFault>
     requires valid { IsValid cluster }
     requires trace { found.marks.results_at ≤ length found.lines }
     requires end { found.marks.end ≤ length found.lines }
     requires numbers { line_behind found.lines < 2 ^ 32 }
-    ensures trace { Gives (λ trace. trace) result (with_cluster (with_run (line_behind found.lines)) found cluster) }
+    ensures trace { Gives (λ trace. trace) result (behind_cluster (with_run (line_behind found.lines)) found cluster) }
     ensures named { IfOk result (λ trace. AreNamed trace.run.lines) }
     ensures moment { IfOk result (λ trace. moment_of trace.head.journal.events < 2 ^ 40) }
 {
@@ -98,7 +102,7 @@ fn trace_of(alloc: Global, text: Vec<u8>) -> Result<Trace, InputFault>
 {
     let found = configuration_of(alloc, LastSection::Trace, text)?;
     let cluster = cluster_in(alloc, &found)?;
-    with_cluster(alloc, found, cluster)
+    behind_cluster(alloc, found, cluster)
 }
 
 /// Reads a whole input with a trace, of at most 16,777,216 bytes.

@@ -1,7 +1,7 @@
 //! What one result line answers.
 
 ghost use Rattle.std.specs.Prelude.{◌≡◌, ◌+◌, ◌<◌, ◌^◌, IfOk};
-ghost use Rattle.cluster_types.specs.Answering.{seconds_in};
+ghost use Rattle.cluster_types.specs.AnswersThatApply.{seconds_in};
 ghost use Rattle.input_reading.specs.Results.{answer_as, answer_of, end_line, in_time, lost_line, quorum_answer, report_line, result_word, timeout_line, up_line, wait_line};
 
 use crate::{

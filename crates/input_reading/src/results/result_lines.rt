@@ -2,7 +2,7 @@
 
 ghost use Rattle.std.specs.Prelude.{◌≡◌, ◌≢◌, ◌<◌, ◌^◌, ◌+◌, List, ℕ, length, IfErr, IfOk};
 ghost use Rattle.crm_lex.specs.Reading.{kept};
-ghost use Rattle.cluster_types.specs.Answering.{seconds_in};
+ghost use Rattle.cluster_types.specs.AnswersThatApply.{seconds_in};
 ghost use Rattle.cluster_types.specs.Journals as journals;
 ghost use Rattle.faults.specs.declared.fault.Fault.TheVariants as found;
 ghost use Rattle.faults.specs.Reading.{Gives};

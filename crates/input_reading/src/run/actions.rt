@@ -1,7 +1,7 @@
 //! What an action does, by the words at the end of a line.
 
 ghost use Rattle.std.specs.Prelude.{◌≡◌};
-ghost use Rattle.cluster_types.specs.Answering.{monitor_action};
+ghost use Rattle.cluster_types.specs.AnswersThatApply.{monitor_action};
 ghost use Rattle.input_reading.specs.RunReading.{action_as, fence_at_end, migrate_from_at_end, migrate_to_at_end, monitor_at_end, operation_at_end, probe_at_end};
 
 use crate::run::words::ActionWord;

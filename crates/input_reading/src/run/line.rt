@@ -3,7 +3,7 @@
 ghost use Rattle.std.specs.Prelude.{◌≡◌};
 ghost use Rattle.faults.specs.Reading.{Reads};
 ghost use Rattle.input_reading.specs.RunReading.{aborted_line, answer_line, begin_line, complete_line, held_line, lacking_line, line_as, line_of_words, number_alone, pinned_line, plain_line, target_line, transition_line, unexpected_line};
-ghost use Rattle.input_reading.specs.Inner.Said.{said_of};
+ghost use Rattle.input_reading.specs.Inner.LentLines.{said_of};
 
 use crate::run::actions::action_as;
 use crate::run::words::{LineWord, action_word_at, id_at, line_word, pin_at, reason_of, target_at};

@@ -3,9 +3,9 @@
 ghost use Rattle.std.specs.Prelude.{◌≡◌, IfOk};
 ghost use Rattle.faults.specs.Reading.{Gives};
 ghost use Rattle.input_reading.specs.RunReading.{read_run_lines, text_line};
-ghost use Rattle.input_reading.specs.Inner.Said.{said_of};
+ghost use Rattle.input_reading.specs.Inner.LentLines.{said_of};
 ghost use Rattle.input_reading.specs.Grammar.LinesSaid.{AsLinesSay, IsRunRefused, RunIsSaid};
-ghost use Rattle.input_reading.specs.Written.{AreNamed};
+ghost use Rattle.input_reading.specs.PrintedLines.{AreNamed};
 
 use crate::run::line::{Said, line_of_words};
 use crate::run::text::{RunText, RunTextLine, TraceFault};

@@ -5,9 +5,10 @@ ghost use Rattle.std.specs.List.{cons_option, filter_map, range_with_len};
 ghost use Rattle.cluster_types.specs.Journals as journals;
 ghost use Rattle.cluster_types.specs.Valid.{KeepsLimits};
 ghost use Rattle.cluster_types.specs.declared.journal.Event.TheVariants as event;
-ghost use Rattle.input_reading.specs.FirstJournal.{events_of, first_said, history_of, journal_of, leavings, now_of, promotion_in, quorum_of, word_as, word_in};
+ghost use Rattle.input_reading.specs.FirstJournal.{events_of, first_said, history_of, journal_of, now_of, promotion_in, quorum_of, word_as, word_in};
+ghost use Rattle.input_reading.specs.Inner.FirstJournal.{leavings};
 
-use crate::status::line_meaning::{NodeWord, Told};
+use crate::status::line_meaning::{Fact, NodeWord};
 use cluster_types::{Cluster, Event, Journal, NodeId, Promotion};
 use faults::{NoMemory, done};
 use listed::Listed;
@@ -15,11 +16,11 @@ use names::Names;
 use std::alloc::Global;
 
 /// The moment that is said, or 0.
-fn now_of(told: &[Told]) -> u64
+fn now_of(told: &[Fact]) -> u64
     ensures { result ≡ now_of told.now }
 {
     for line in told {
-        if let Told::Now(seconds) = *line {
+        if let Fact::Now(seconds) = *line {
             return seconds;
         }
     }
@@ -27,28 +28,28 @@ fn now_of(told: &[Told]) -> u64
 }
 
 /// The word on quorum, or no.
-fn quorum_of(told: &[Told]) -> bool
+fn quorum_of(told: &[Fact]) -> bool
     ensures { result ≡ quorum_of told.now }
 {
     for line in told {
-        if let Told::Quorum(yes) = *line {
+        if let Fact::Quorum(yes) = *line {
             return yes;
         }
     }
     false
 }
 
-fn word_in(node: NodeId, line: Told) -> Option<NodeWord>
+fn word_in(node: NodeId, line: Fact) -> Option<NodeWord>
     ensures { result ≡ word_in node line }
 {
     match line {
-        Told::Node { node: said, word } if said == node => Some(word),
+        Fact::Node { node: said, word } if said == node => Some(word),
         _ => None,
     }
 }
 
 /// The word on the node, if there is one.
-fn word_of(told: &[Told], node: NodeId) -> Option<NodeWord>
+fn word_of(told: &[Fact], node: NodeId) -> Option<NodeWord>
     ensures { result ≡ first_said (word_in node) told.now }
 {
     for line in told {
@@ -92,11 +93,11 @@ fn add_joins(events: &mut Listed<Event>, nodes: u32) -> Result<(), NoMemory>
 }
 
 /// Adds the operations that ended and the cells that were cleaned up.
-fn add_history(events: &mut Listed<Event>, told: &[Told]) -> Result<(), NoMemory>
+fn add_history(events: &mut Listed<Event>, told: &[Fact]) -> Result<(), NoMemory>
     ensures { OnOk result (events.new ≡ events.old ++ history_of told.now) }
 {
     for line in told {
-        let Told::Past(event) = *line else {
+        let Fact::Past(event) = *line else {
             continue;
         };
         add(events, event)?;
@@ -123,7 +124,7 @@ fn add_leaving(
 fn add_leavings(
     events: &mut Listed<Event>,
     cluster: &Cluster,
-    told: &[Told],
+    told: &[Fact],
 ) -> Result<(), NoMemory>
     requires { KeepsLimits cluster.now }
     ensures { OnOk result (events.new ≡ events.old ++ leavings cluster.now told.now) }
@@ -144,7 +145,7 @@ fn add_last(events: &mut Listed<Event>, yes: bool, seconds: u64) -> Result<(), N
 }
 
 /// Adds all events of the first journal.
-fn add_events(events: &mut Listed<Event>, cluster: &Cluster, told: &[Told]) -> Result<(), NoMemory>
+fn add_events(events: &mut Listed<Event>, cluster: &Cluster, told: &[Fact]) -> Result<(), NoMemory>
     requires limits { KeepsLimits cluster.now }
     requires none { events.old ≡ [] }
     ensures { OnOk result (events.new ≡ events_of cluster.now told.now) }
@@ -155,7 +156,7 @@ fn add_events(events: &mut Listed<Event>, cluster: &Cluster, told: &[Told]) -> R
     add_last(events, quorum_of(told), now_of(told))
 }
 
-fn events_of(alloc: Global, cluster: &Cluster, told: &[Told]) -> Result<Listed<Event>, NoMemory>
+fn events_of(alloc: Global, cluster: &Cluster, told: &[Fact]) -> Result<Listed<Event>, NoMemory>
     requires { KeepsLimits cluster.now }
     ensures { IfOk result (λ events. events ≡ events_of cluster.now told.now) }
 {
@@ -164,12 +165,12 @@ fn events_of(alloc: Global, cluster: &Cluster, told: &[Told]) -> Result<Listed<E
     done(events, added)
 }
 
-fn promotions_of(alloc: Global, told: &[Told]) -> Result<Listed<Promotion>, NoMemory>
+fn promotions_of(alloc: Global, told: &[Fact]) -> Result<Listed<Promotion>, NoMemory>
     ensures { IfOk result (λ promotions. promotions ≡ filter_map promotion_in told.now) }
 {
     let mut promotions = Listed::new(alloc);
     for line in told {
-        let Told::Promoting(promotion) = *line else {
+        let Fact::Promoting(promotion) = *line else {
             continue;
         };
         promotions.push(promotion)?;
@@ -178,7 +179,7 @@ fn promotions_of(alloc: Global, told: &[Told]) -> Result<Listed<Promotion>, NoMe
 }
 
 /// The first journal of all that was told.
-pub fn journal_of(alloc: Global, names: &Names<'_>, told: &[Told]) -> Result<Journal, NoMemory>
+pub fn journal_of(alloc: Global, names: &Names<'_>, told: &[Fact]) -> Result<Journal, NoMemory>
     ensures { IfOk result (λ journal. journal ≡ journal_of names.now told.now) }
 {
     Ok(Journal {

@@ -14,7 +14,7 @@ pub enum NodeWord {
 
 /// What one line of a status tells.
 #[derive(Clone, Copy)]
-pub enum Told {
+pub enum Fact {
     /// The moment, in seconds.
     Now(u64),
     /// Whether the cluster has quorum.

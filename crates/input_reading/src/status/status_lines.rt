@@ -4,10 +4,10 @@ ghost use Rattle.std.specs.Prelude.{◌≡◌, ◌<◌, ◌^◌, ℕ, length, tr
 ghost use Rattle.cluster_types.specs.Journals.{is_history_event};
 ghost use Rattle.cluster_types.specs.declared.journal.Event.TheVariants as event;
 ghost use Rattle.faults.specs.Digits.{number_up_to};
-ghost use Rattle.input_reading.specs.FirstJournal.{is_known};
+ghost use Rattle.input_reading.specs.Inner.FirstJournal.{is_known};
 ghost use Rattle.input_reading.specs.Status.{history_action, cleanup_line, fitting, interval_as, interval_at, may_have, node_line, node_word, now_line, op_at, op_line, outcome_at, outcome_of, promotable, promotable_at, promotion_line, quorum_line, score_at, state_at, status_word, told_as, told_of};
 
-use crate::status::line_meaning::{NodeWord, Told};
+use crate::status::line_meaning::{Fact, NodeWord};
 use crate::words::op_words::op_named;
 use crate::{
     WordCause, Words, code_of, end_at, interval_of, leaf_at, node_at, seconds_at, word_at, yes_at,
@@ -51,23 +51,23 @@ fn status_word(word: &[u8]) -> Result<StatusWord, WordCause>
 }
 
 #[tactic(auto, unfolding(crate::specs::Status::now_line))]
-fn now_line<W: Words>(words: &W) -> Result<Told, WordCause>
+fn now_line<W: Words>(words: &W) -> Result<Fact, WordCause>
     ensures value { result ≡ now_line (W.words words.now) }
     ensures known { (nodes : ℕ) → IfOk result (λ told. is_known nodes told ≡ true) }
 {
     let seconds = seconds_at(1, words)?;
     end_at(2, words)?;
-    Ok(Told::Now(seconds))
+    Ok(Fact::Now(seconds))
 }
 
 #[tactic(auto, unfolding(crate::specs::Status::quorum_line))]
-fn quorum_line<W: Words>(words: &W) -> Result<Told, WordCause>
+fn quorum_line<W: Words>(words: &W) -> Result<Fact, WordCause>
     ensures value { result ≡ quorum_line (W.words words.now) }
     ensures known { (nodes : ℕ) → IfOk result (λ told. is_known nodes told ≡ true) }
 {
     let yes = yes_at(1, words)?;
     end_at(2, words)?;
-    Ok(Told::Quorum(yes))
+    Ok(Fact::Quorum(yes))
 }
 
 fn node_word(word: &[u8]) -> Option<NodeWord>
@@ -93,14 +93,14 @@ fn state_at<W: Words>(place: usize, words: &W) -> Result<NodeWord, WordCause>
 }
 
 #[tactic(auto, unfolding(crate::specs::Status::node_line))]
-fn node_line<W: Words>(names: &Names<'_>, words: &W) -> Result<Told, WordCause>
+fn node_line<W: Words>(names: &Names<'_>, words: &W) -> Result<Fact, WordCause>
     ensures value { result ≡ node_line names.now (W.words words.now) }
     ensures known { (nodes : ℕ) → IfOk result (λ told. is_known nodes told ≡ true) }
 {
     let node = node_at(names, 1, words)?;
     let word = state_at(2, words)?;
     end_at(3, words)?;
-    Ok(Told::Node { node, word })
+    Ok(Fact::Node { node, word })
 }
 
 /// Whether the leaf may have had the operation: only a promotable leaf is promoted and demoted.
@@ -207,7 +207,7 @@ fn action_as(names: &Names<'_>, op: Op, leaf: LeafId, node: NodeId, interval_ms:
 }
 
 #[tactic(auto, unfolding(crate::specs::Status::op_line))]
-fn op_line<W: Words>(names: &Names<'_>, words: &W) -> Result<Told, WordCause>
+fn op_line<W: Words>(names: &Names<'_>, words: &W) -> Result<Fact, WordCause>
     ensures value { result ≡ op_line names.now (W.words words.now) }
     ensures known { IfOk result (λ told. is_known (length names.now.nodes) told ≡ true) }
 {
@@ -218,7 +218,7 @@ fn op_line<W: Words>(names: &Names<'_>, words: &W) -> Result<Told, WordCause>
     let outcome = outcome_at(5, words)?;
     let moment = seconds_at(6, words)?;
     end_at(7, words)?;
-    Ok(Told::Past(Event::Ended {
+    Ok(Fact::Past(Event::Ended {
         number: 0,
         action: action_as(names, op, leaf, node, interval_ms),
         outcome,
@@ -227,14 +227,14 @@ fn op_line<W: Words>(names: &Names<'_>, words: &W) -> Result<Told, WordCause>
 }
 
 #[tactic(auto, unfolding(crate::specs::Status::cleanup_line))]
-fn cleanup_line<W: Words>(names: &Names<'_>, words: &W) -> Result<Told, WordCause>
+fn cleanup_line<W: Words>(names: &Names<'_>, words: &W) -> Result<Fact, WordCause>
     ensures value { result ≡ cleanup_line names.now (W.words words.now) }
     ensures known { IfOk result (λ told. is_known (length names.now.nodes) told ≡ true) }
 {
     let node = node_at(names, 1, words)?;
     let leaf = leaf_at(names, 2, words)?;
     end_at(3, words)?;
-    Ok(Told::Past(Event::Cleanup { leaf, node }))
+    Ok(Fact::Past(Event::Cleanup { leaf, node }))
 }
 
 fn promotable(names: &Names<'_>, leaf: LeafId) -> Result<LeafId, WordCause>
@@ -264,7 +264,7 @@ fn score_at<W: Words>(place: usize, words: &W) -> Result<Score, WordCause>
 }
 
 #[tactic(auto, unfolding(crate::specs::Status::promotion_line))]
-fn promotion_line<W: Words>(names: &Names<'_>, words: &W) -> Result<Told, WordCause>
+fn promotion_line<W: Words>(names: &Names<'_>, words: &W) -> Result<Fact, WordCause>
     ensures value { result ≡ promotion_line names.now (W.words words.now) }
     ensures known { (nodes : ℕ) → IfOk result (λ told. is_known nodes told ≡ true) }
 {
@@ -272,10 +272,10 @@ fn promotion_line<W: Words>(names: &Names<'_>, words: &W) -> Result<Told, WordCa
     let leaf = promotable_at(names, 2, words)?;
     let score = score_at(3, words)?;
     end_at(4, words)?;
-    Ok(Told::Promoting(Promotion { leaf, node, score }))
+    Ok(Fact::Promoting(Promotion { leaf, node, score }))
 }
 
-fn told_as<W: Words>(names: &Names<'_>, form: StatusWord, words: &W) -> Result<Told, WordCause>
+fn told_as<W: Words>(names: &Names<'_>, form: StatusWord, words: &W) -> Result<Fact, WordCause>
     ensures value { result ≡ told_as names.now form (W.words words.now) }
     ensures known { IfOk result (λ told. is_known (length names.now.nodes) told ≡ true) }
 {
@@ -291,7 +291,7 @@ fn told_as<W: Words>(names: &Names<'_>, form: StatusWord, words: &W) -> Result<T
 
 /// What the words of a line tell.
 #[tactic(auto, unfolding(crate::specs::Status::told_of))]
-pub fn told_of<W: Words>(names: &Names<'_>, words: &W) -> Result<Told, WordCause>
+pub fn told_of<W: Words>(names: &Names<'_>, words: &W) -> Result<Fact, WordCause>
     ensures value { result ≡ told_of names.now (W.words words.now) }
     ensures known { IfOk result (λ told. is_known (length names.now.nodes) told ≡ true) }
 {

@@ -1,10 +1,10 @@
 //! What the lines of a status told that may be told once.
 
 ghost use Rattle.std.specs.Prelude.{◌≡◌, false, OnOk};
-ghost use Rattle.input_reading.specs.declared.status.line_meaning.Told.{Told as ToldOf};
+ghost use Rattle.input_reading.specs.declared.status.line_meaning.Fact.{Fact as FactOf};
 ghost use Rattle.input_reading.specs.Inner.Repeats.{has_told, AddsKey};
 
-use crate::status::line_meaning::Told;
+use crate::status::line_meaning::Fact;
 use cluster_types::{LeafId, NodeId};
 use faults::NoMemory;
 use std::alloc::Global;
@@ -23,7 +23,7 @@ pub(crate) struct ToldKeys {
 impl ToldKeys {
     /// Nothing was told.
     pub fn new(alloc: Global) -> Self
-        ensures { (line : ToldOf) → has_told result line ≡ false }
+        ensures { (line : FactOf) → has_told result line ≡ false }
     {
         ToldKeys {
             moment: false,
@@ -34,30 +34,30 @@ impl ToldKeys {
     }
 
     /// Whether the line tells again what was told and may be told once.
-    pub fn has(&self, line: Told) -> bool
+    pub fn has(&self, line: Fact) -> bool
         ensures { result ≡ has_told self.now line }
     {
         match line {
-            Told::Now(_) => self.moment,
-            Told::Quorum(_) => self.quorum,
-            Told::Node { node, .. } => self.nodes.contains(&node),
-            Told::Past(_) => false,
-            Told::Promoting(promotion) => self.cells.contains(&(promotion.leaf, promotion.node)),
+            Fact::Now(_) => self.moment,
+            Fact::Quorum(_) => self.quorum,
+            Fact::Node { node, .. } => self.nodes.contains(&node),
+            Fact::Past(_) => false,
+            Fact::Promoting(promotion) => self.cells.contains(&(promotion.leaf, promotion.node)),
         }
     }
 
     /// Adds what a line tells.
-    pub fn add(&mut self, line: &Told) -> Result<(), NoMemory>
+    pub fn add(&mut self, line: &Fact) -> Result<(), NoMemory>
         ensures { OnOk result (AddsKey self.old self.new line.now) }
     {
         match *line {
-            Told::Now(_) => self.moment = true,
-            Told::Quorum(_) => self.quorum = true,
-            Told::Node { node, .. } => {
+            Fact::Now(_) => self.moment = true,
+            Fact::Quorum(_) => self.quorum = true,
+            Fact::Node { node, .. } => {
                 self.nodes.insert(node)?;
             }
-            Told::Past(_) => {}
-            Told::Promoting(promotion) => {
+            Fact::Past(_) => {}
+            Fact::Promoting(promotion) => {
                 let cell = (promotion.leaf, promotion.node);
                 self.cells.insert(cell)?;
             }

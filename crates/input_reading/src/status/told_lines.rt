@@ -3,7 +3,7 @@
 ghost use Rattle.std.specs.Prelude.{◌≡◌, ◌++◌, ◌∷◌, [], IfOk};
 ghost use Rattle.input_reading.specs.FirstJournal.{is_repeated};
 
-use crate::status::line_meaning::Told;
+use crate::status::line_meaning::Fact;
 use crate::status::told_keys::ToldKeys;
 use faults::NoMemory;
 use listed::Listed;
@@ -13,16 +13,16 @@ use std::marker::Model;
 /// What lines told, in their order, with what of it may be told once, found by hashing. Contracts see what the lines told.
 #[derive(Drop)]
 pub(crate) struct ToldLines {
-    lines: Listed<Told>,
+    lines: Listed<Fact>,
     keys: ToldKeys,
 }
 
 impl Model for ToldLines {
     ghost use Rattle.std.specs.Prelude.{List};
-    ghost use Rattle.input_reading.specs.declared.status.line_meaning.Told.{Told};
+    ghost use Rattle.input_reading.specs.declared.status.line_meaning.Fact.{Fact};
     ghost use Rattle.input_reading.specs.Inner.Repeats.{HasToldKeysOf};
 
-    ghost Value = { List Told };
+    ghost Value = { List Fact };
 
     ghost view = { λ told. told.lines };
 
@@ -41,14 +41,14 @@ impl ToldLines {
     }
 
     /// Whether one of the lines told what this line tells again, and what may be told once.
-    pub fn is_repeated(&self, line: Told) -> bool
+    pub fn is_repeated(&self, line: Fact) -> bool
         ensures { result ≡ is_repeated self.now line }
     {
         self.keys.has(line)
     }
 
     /// The lines, and one more at the end.
-    pub fn with(self, line: Told) -> Result<ToldLines, NoMemory>
+    pub fn with(self, line: Fact) -> Result<ToldLines, NoMemory>
         ensures { IfOk result (λ more. more ≡ self ++ line ∷ []) }
     {
         let ToldLines {
@@ -61,7 +61,7 @@ impl ToldLines {
     }
 
     /// Lends what the lines told.
-    pub fn as_slice(&self) -> &[Told]
+    pub fn as_slice(&self) -> &[Fact]
         ensures { result.now ≡ self.now }
     {
         self.lines.as_slice()

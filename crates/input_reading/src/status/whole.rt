@@ -5,11 +5,12 @@ ghost use Rattle.std.specs.List.{list_all};
 ghost use Rattle.cluster_types.specs.declared.journal.Promotion.{Promotion as PromotionOf};
 ghost use Rattle.cluster_types.specs.Journals.{Orderly, in_flight_by_begin, moment_of};
 ghost use Rattle.faults.specs.Reading.{Gives};
-ghost use Rattle.input_reading.specs.FirstJournal.{all_differ, is_known, is_repeated, is_promotion_of_same_cell, journal_of, status_journal, with_status_line, with_status_lines};
+ghost use Rattle.input_reading.specs.FirstJournal.{is_repeated, is_promotion_of_same_cell, journal_of, status_journal, with_status_line, with_status_lines};
+ghost use Rattle.input_reading.specs.Inner.FirstJournal.{all_differ, is_known};
 ghost use Rattle.input_reading.specs.Grammar.LinesSaid.{AsLinesSay, IsStatusRefused, StatusIsSaid};
 
 use crate::status::first_journal::journal_of;
-use crate::status::line_meaning::Told;
+use crate::status::line_meaning::Fact;
 use crate::status::status_lines::told_of;
 use crate::status::told_lines::ToldLines;
 use crate::{StatusCause, StatusFault};
@@ -20,7 +21,7 @@ use names::Names;
 use std::alloc::Global;
 
 /// What one more line tells; `Repeated` where a line before it told what may be told once.
-fn told_on(names: &Names<'_>, told: &ToldLines, line: &Line) -> Result<Told, StatusFault>
+fn told_on(names: &Names<'_>, told: &ToldLines, line: &Line) -> Result<Fact, StatusFault>
     ensures read { Gives (λ one. told.now ++ one ∷ []) result (with_status_line names.now told.now line.now) }
     ensures known { IfOk result (λ one. is_known (length names.now.nodes) one ≡ true) }
     ensures first { IfOk result (λ one. is_repeated told.now one ≡ false) }
@@ -66,7 +67,7 @@ fn with_lines(alloc: Global, names: &Names<'_>, lines: &[Line]) -> Result<ToldLi
 
 /// The first journal of all that the lines told.
 #[tactic(auto, using(crate::proofs::FirstJournals::journal_in_order, crate::proofs::FirstJournals::journal_is_idle, crate::proofs::FirstJournals::journal_moment, crate::proofs::FirstJournals::promotions_differ))]
-fn told_journal(alloc: Global, names: &Names<'_>, told: &[Told]) -> Result<Journal, StatusFault>
+fn told_journal(alloc: Global, names: &Names<'_>, told: &[Fact]) -> Result<Journal, StatusFault>
     requires known { list_all (is_known (length names.now.nodes)) told.now ≡ true }
     requires once { all_differ told.now ≡ true }
     ensures read { Gives (λ journal. journal) result (Ok (journal_of names.now told.now)) }

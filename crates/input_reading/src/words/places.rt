@@ -3,7 +3,7 @@
 ghost use Rattle.std.specs.Prelude.{◌≡◌, ◌<◌, ◌^◌, length, IfOk};
 ghost use Rattle.crm_lex.specs.Names.{is};
 ghost use Rattle.faults.specs.Reading.{Reads};
-ghost use Rattle.input_reading.specs.Places.{code_at, line_end_at, leaf_at, node_at, number_at, seconds_at, word_at, yes_at, yes_or_no};
+ghost use Rattle.input_reading.specs.WordPlaces.{code_at, line_end_at, leaf_at, node_at, number_at, seconds_at, word_at, yes_at, yes_or_no};
 
 use crate::words::number_words::{code_of, number_of, seconds_of};
 use crate::{WordCause, Words};
@@ -32,7 +32,7 @@ pub fn end_at<W: Words>(place: usize, words: &W) -> Result<(), WordCause>
 }
 
 /// The node that is named at this place. `UnknownName` comes when the cluster doesn't have it.
-#[tactic(auto, unfolding(crate::specs::Places::node_at))]
+#[tactic(auto, unfolding(crate::specs::WordPlaces::node_at))]
 pub fn node_at<W: Words>(names: &Names<'_>, place: usize, words: &W) -> Result<NodeId, WordCause>
     ensures value { result ≡ node_at names.now place (W.words words.now) }
     ensures within { IfOk result (λ node. node < length names.now.nodes) }
@@ -42,7 +42,7 @@ pub fn node_at<W: Words>(names: &Names<'_>, place: usize, words: &W) -> Result<N
 }
 
 /// The leaf that is named at this place. `UnknownName` comes when the cluster doesn't have it.
-#[tactic(auto, unfolding(crate::specs::Places::leaf_at))]
+#[tactic(auto, unfolding(crate::specs::WordPlaces::leaf_at))]
 pub fn leaf_at<W: Words>(names: &Names<'_>, place: usize, words: &W) -> Result<LeafId, WordCause>
     ensures value { result ≡ leaf_at names.now place (W.words words.now) }
     ensures within { IfOk result (λ leaf. leaf < length names.now.leaves) }
@@ -52,7 +52,7 @@ pub fn leaf_at<W: Words>(names: &Names<'_>, place: usize, words: &W) -> Result<L
 }
 
 /// The number of an action, from 1 to 4,294,967,295. `BadValue` comes at any other word.
-#[tactic(auto, unfolding(crate::specs::Places::number_at))]
+#[tactic(auto, unfolding(crate::specs::WordPlaces::number_at))]
 pub fn number_at<W: Words>(place: usize, words: &W) -> Result<u32, WordCause>
     ensures { result ≡ number_at place (W.words words.now) }
 {
@@ -61,7 +61,7 @@ pub fn number_at<W: Words>(place: usize, words: &W) -> Result<u32, WordCause>
 }
 
 /// An exit code, from 0 to 255. `BadValue` comes at any other word.
-#[tactic(auto, unfolding(crate::specs::Places::code_at))]
+#[tactic(auto, unfolding(crate::specs::WordPlaces::code_at))]
 pub fn code_at<W: Words>(place: usize, words: &W) -> Result<u8, WordCause>
     ensures { result ≡ code_at place (W.words words.now) }
 {
@@ -70,7 +70,7 @@ pub fn code_at<W: Words>(place: usize, words: &W) -> Result<u8, WordCause>
 }
 
 /// Seconds, below 1,099,511,627,776. `BadValue` comes at any other word.
-#[tactic(auto, unfolding(crate::specs::Places::seconds_at))]
+#[tactic(auto, unfolding(crate::specs::WordPlaces::seconds_at))]
 pub fn seconds_at<W: Words>(place: usize, words: &W) -> Result<u64, WordCause>
     ensures value { result ≡ seconds_at place (W.words words.now) }
     ensures range { IfOk result (λ seconds. seconds < 2 ^ 40) }
@@ -92,7 +92,7 @@ fn yes_or_no(word: &[u8]) -> Option<bool>
 }
 
 /// Whether `yes` or `no` stands there. `BadValue` comes at any other word.
-#[tactic(auto, unfolding(crate::specs::Places::yes_at))]
+#[tactic(auto, unfolding(crate::specs::WordPlaces::yes_at))]
 pub fn yes_at<W: Words>(place: usize, words: &W) -> Result<bool, WordCause>
     ensures { result ≡ yes_at place (W.words words.now) }
 {

@@ -1,12 +1,12 @@
 -- What reading on brings of the result lines to come (follows from the definition of what is to come).
 use Rattle.std.specs.Prelude.{◌≡◌, ℕ, Bool, true, false, Option, Some, None, List, option_map}
 use Rattle.cluster_types.specs.declared.cluster.Cluster.{Cluster}
-use Rattle.live_run.specs.Saying.{is_last}
+use Rattle.live_run.specs.LineSays.{is_last}
 use Rattle.live_run.specs.declared.line_result.Came.{Came}
 use Rattle.live_run.specs.declared.line_result.Came.TheVariants as came
 use Rattle.live_run.specs.declared.line_meaning.Said.{Said}
 use Rattle.live_run.specs.declared.line_meaning.Said.TheVariants as said
-use Rattle.live_run.specs.Coming.{Coming, no_more, result_first, Lines, coming_of}
+use Rattle.live_run.specs.AnswersToCome.{Coming, no_more, result_first, Lines, coming_of}
 
 -- the same, where the source tells what it has left
 abbrev pub told_coming : Cluster → Lines → Option (List ℕ) → Option Coming

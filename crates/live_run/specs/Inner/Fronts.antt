@@ -4,8 +4,8 @@ use Rattle.std.proofs.Math.Seq.{take-append-add, take-length}
 use Rattle.std.proofs.lemmas.List.{take-append-le}
 use Rattle.cluster_io.specs.Streams.{Adds, AddsPrefix}
 use Rattle.cluster_io.proofs.Pieces.{Adds-then}
-use Rattle.live_run.specs.Writing.{CutsShort, GoesOut, most_held}
-use Rattle.run_safety.specs.Followed.{IsFront}
+use Rattle.live_run.specs.HeldAndWritten.{CutsShort, GoesOut, most_held}
+use Rattle.run_safety.specs.TwoRuns.{IsFront}
 
 -- nothing is added
 pub adds_none : (text : Option (List ℕ)) → Adds text [] text

@@ -7,11 +7,11 @@ use Rattle.faults.specs.declared.fault.Fault.TheVariants.{At, NoMemory}
 use Rattle.input_reading.specs.declared.input.cause.InputCause.TheVariants.{Words}
 use Rattle.live_run.specs.declared.head.HeadStop.{HeadStop}
 use Rattle.live_run.specs.declared.head.HeadStop.TheVariants as stop
-use Rattle.live_run.specs.Heads.{HeadVerdict, head_behind, ReaderProgress, taken, refused, too_large}
+use Rattle.live_run.specs.Heads.{HeadFound, head_behind, ReaderSofar, taken, refused, too_large}
 
 -- the head where reading came to its end or stopped, with this text behind it and the reader there. Before that, and where the source or memory
 -- failed, it is what is still to come
-abbrev pub came_to : Option (Result (Unit {0}) HeadStop) → List ℕ → Reading → HeadVerdict → HeadVerdict
+abbrev pub came_to : Option (Result (Unit {0}) HeadStop) → List ℕ → Reading → HeadFound → HeadFound
 came_to (Some (Ok end)) text reading others = taken text reading.next reading.room
 came_to (Some (Err (stop.Refused line why))) text reading others = refused line why
 came_to (Some (Err stop.TooLarge)) text reading others = too_large
@@ -23,7 +23,7 @@ lacks_memory (Some (Err stop.NoMemory)) = true
 lacks_memory _ = false
 
 -- reading on brought this of the head that was to come, where the source tells its bytes
-abbrev pub BringsHead : Option (Result (Unit {0}) HeadStop) → ReaderProgress → ReaderProgress → Option (List ℕ) → Option (List ℕ) → Type 0
+abbrev pub BringsHead : Option (Result (Unit {0}) HeadStop) → ReaderSofar → ReaderSofar → Option (List ℕ) → Option (List ℕ) → Type 0
 BringsHead came old new before after = lacks_memory came ≡ false
     → option_map (head_behind old.text old.reading) before
     ≡ option_map (λ left. came_to came new.text new.reading (head_behind new.text new.reading left)) after

@@ -5,9 +5,9 @@ use Rattle.std.proofs.lemmas.Grind.{flat_map-append}
 use Rattle.cluster_io.proofs.Pieces.{Takes-then}
 use Rattle.cluster_types.specs.declared.cluster.Cluster.{Cluster}
 use Rattle.crm_lex.specs.RawLines.{raw_lines}
-use Rattle.live_run.specs.Coming.{Coming, Lines}
-use Rattle.live_run.specs.Followed.{AreNear, NoneOrLastSays, LastLineSays, HasRead, IsStoppedBy, bytes_of, count_said, results_first, said_by}
-use Rattle.run_safety.specs.Followed.{IsFront}
+use Rattle.live_run.specs.AnswersToCome.{Coming, Lines}
+use Rattle.live_run.specs.SourceFollowed.{AreNear, NoneOrLastSays, LastLineSays, HasRead, IsStoppedBy, bytes_of, count_said, results_first, said_by}
+use Rattle.run_safety.specs.TwoRuns.{IsFront}
 use Rattle.live_run.specs.Inner.ReadSteps.{HasPassed, ReadUntil}
 use Rattle.live_run.specs.declared.line_result.Came.{Came}
 use Rattle.live_run.specs.declared.line_result.Came.TheVariants as came

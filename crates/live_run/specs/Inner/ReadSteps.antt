@@ -3,10 +3,10 @@ use Rattle.std.specs.Prelude.{◌≡◌, ℕ, false, Option, Some, None, List, [
 use Rattle.cluster_io.specs.NextLine.{holds_line, IsUndecided}
 use Rattle.cluster_types.specs.declared.cluster.Cluster.{Cluster}
 use Rattle.input_reading.specs.declared.results.result_lines.ResultLine.{ResultLine}
-use Rattle.live_run.specs.Coming.{Lines}
+use Rattle.live_run.specs.AnswersToCome.{Lines}
 use Rattle.live_run.specs.declared.line_result.Came.{Came}
 use Rattle.live_run.specs.declared.line_result.Came.TheVariants as came
-use Rattle.live_run.specs.Followed.{LastLineSays, HasRead, AreNear, AllIsRead, IsStoppedBy}
+use Rattle.live_run.specs.SourceFollowed.{LastLineSays, HasRead, AreNear, AllIsRead, IsStoppedBy}
 
 -- lines without words were passed over
 pub record HasPassed (c : Cluster) (old new : Lines) (before after : Option (List ℕ)) : Type 0 where

@@ -5,7 +5,7 @@ use Rattle.cluster_io.specs.Streams.{Adds}
 use Rattle.live_run.specs.declared.line_stop.LineStop.{LineStop}
 use Rattle.live_run.specs.declared.line_stop.LineStop.TheVariants as why
 use Rattle.live_run.specs.LineCauses.{line_refusal_text}
-use Rattle.live_run.specs.Writing.{CutsShort}
+use Rattle.live_run.specs.HeldAndWritten.{CutsShort}
 use Rattle.live_run.specs.declared.live_end.LiveEnd.{LiveEnd}
 use Rattle.live_run.specs.declared.live_end.LiveEnd.TheVariants as end
 

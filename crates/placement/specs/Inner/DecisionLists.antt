@@ -14,7 +14,7 @@ use Rattle.cluster_types.specs.Pins.{is_pinned_in}
 use Rattle.placement.specs.declared.totals.table.ScoreTable.{ScoreTable}
 use Rattle.placement.specs.OwnRows.{cell_by}
 use Rattle.placement.specs.Scores.{score_in}
-use Rattle.placement.specs.Usable.{is_usable_by}
+use Rattle.placement.specs.UsableNodes.{is_usable_by}
 
 module _ (c : Cluster) (pins : List (Option Pin)) where
   -- what is decided of a leaf

@@ -9,7 +9,7 @@ use Rattle.cluster_types.specs.declared.rules.Order.{Order}
 use Rattle.cluster_types.specs.Choice.{is_mandatory}
 use Rattle.cluster_types.specs.Pins.{is_pinned_in}
 use Rattle.cluster_types.specs.Precedence.{is_mandatory_order, is_giving, role_given}
-use Rattle.placement.specs.declared.held.dependencies.Dependency.{Dependency}
+use Rattle.placement.specs.declared.held_targets.dependencies.Dependency.{Dependency}
 
 -- the order may hold its then back: it is mandatory, and both its words give a role
 abbrev pub may_hold_back : Order → Bool

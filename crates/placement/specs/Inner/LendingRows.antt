@@ -6,8 +6,8 @@ use Rattle.score.specs.Total.{total_of}
 use Rattle.cluster_types.specs.declared.cluster.Cluster.{Cluster}
 use Rattle.cluster_types.specs.declared.states.States.{States}
 use Rattle.cluster_types.specs.Terms.{is_tied}
-use Rattle.placement.specs.OwnRows.{terms_by}
-use Rattle.placement.specs.Usable.{is_usable_by}
+use Rattle.placement.specs.Inner.OwnRows.{terms_by}
+use Rattle.placement.specs.UsableNodes.{is_usable_by}
 
 module _ (c : Cluster) (states : States) where
   -- with the terms of these leaves some usable node is left

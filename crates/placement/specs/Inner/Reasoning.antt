@@ -15,9 +15,9 @@ use Rattle.cluster_types.specs.Decisions.{decision_of, is_same_decision}
 use Rattle.cluster_types.specs.Fields.{copies, target_role_of}
 use Rattle.cluster_types.specs.Pins.{is_pinned_in}
 use Rattle.cluster_types.specs.Tables.{Targets, is_somewhere}
-use Rattle.placement.specs.declared.held.dependencies.Dependency.{Dependency}
+use Rattle.placement.specs.declared.held_targets.dependencies.Dependency.{Dependency}
 use Rattle.placement.specs.Inner.Dependencies.{of_colocation, of_order}
-use Rattle.placement.specs.Reads.{is_fail_stopped_in}
+use Rattle.placement.specs.Inner.Reads.{is_fail_stopped_in}
 use Rattle.placement.specs.Inner.Taking.{has_its_primary}
 
 -- the first reason that holds, of those that are no rule's: whether a failure stops the leaf, whether the cluster may start, whether it was chosen nowhere

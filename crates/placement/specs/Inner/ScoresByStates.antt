@@ -5,8 +5,8 @@ use Rattle.cluster_types.specs.declared.states.States.{States}
 use Rattle.score.specs.Total.{total_of}
 use Rattle.placement.specs.declared.totals.table.ScoreTable.{ScoreTable}
 use Rattle.placement.specs.Inner.LendingRows.{all_joined}
-use Rattle.placement.specs.OwnRows.{terms_by}
-use Rattle.placement.specs.Promotions.{wished_by}
+use Rattle.placement.specs.Inner.OwnRows.{terms_by}
+use Rattle.placement.specs.Inner.Promotions.{wished_by}
 use Rattle.placement.specs.Scores.{cells_of}
 
 -- the totals of all decisions, before colocations, by the states

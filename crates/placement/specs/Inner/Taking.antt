@@ -6,7 +6,7 @@ use Rattle.cluster_types.specs.declared.leaf.Role.TheVariants as role
 use Rattle.cluster_types.specs.declared.placement.Target.{Target}
 use Rattle.cluster_types.specs.declared.placement.Target.TheVariants as target
 use Rattle.cluster_types.specs.Tables.{Targets, holds_role, with_cell}
-use Rattle.placement.specs.declared.held.dependencies.Dependency.{Dependency}
+use Rattle.placement.specs.declared.held_targets.dependencies.Dependency.{Dependency}
 
 -- what is left of a target without the role
 abbrev pub below : Role → Target

@@ -4,8 +4,8 @@ use Rattle.std.specs.List.{list_all}
 use Rattle.cluster_types.specs.declared.cluster.Cluster.{Cluster}
 use Rattle.cluster_types.specs.declared.placement.Decision.{Decision}
 use Rattle.cluster_types.specs.Decisions.{Key, is_among, is_less, is_place, leaf_of, needs}
-use Rattle.placement.specs.declared.order.ranked.Ranked.{Ranked}
-use Rattle.placement.specs.Inner.Effective.{goes_before}
+use Rattle.placement.specs.declared.order.ranked_decisions.Ranked.{Ranked}
+use Rattle.placement.specs.Inner.EffectiveKeys.{goes_before}
 use Rattle.placement.specs.Inner.Flags.{slot_of}
 
 -- the decision can be made: it hasn't been, and what it needs of these has been

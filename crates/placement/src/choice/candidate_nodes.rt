@@ -3,7 +3,7 @@
 ghost use Rattle.std.specs.Prelude.{◌≡◌, ◌<◌, ℕ, true, length};
 ghost use Rattle.cluster_types.specs.Tables.{targets_of};
 ghost use Rattle.score.specs.NodeSet.{has};
-ghost use Rattle.placement.specs.Reads as spec;
+ghost use Rattle.placement.specs.Inner.Reads as spec;
 
 use crate::choice::inputs::Known;
 use crate::choice::permitting::open_nodes;

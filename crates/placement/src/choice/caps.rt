@@ -2,7 +2,7 @@
 
 ghost use Rattle.std.specs.Prelude.{◌≡◌};
 ghost use Rattle.cluster_types.specs.declared.placement.Decision.TheVariants.{Place};
-ghost use Rattle.placement.specs.Reads as spec;
+ghost use Rattle.placement.specs.Inner.Reads as spec;
 
 use cluster_types::{Cluster, Decision, LeafId, States, TargetRole};
 

@@ -8,10 +8,11 @@ ghost use Rattle.cluster_types.specs.Choice.{after_decisions, target_by};
 ghost use Rattle.cluster_types.specs.Decisions.{leaf_of};
 ghost use Rattle.cluster_types.specs.Plans.{with_totals};
 ghost use Rattle.cluster_types.specs.Tables.{targets_of};
-ghost use Rattle.cluster_types.specs.Unpacked.{states_of};
+ghost use Rattle.cluster_types.specs.UnpackedStates.{states_of};
 ghost use Rattle.cluster_types.specs.Valid.{KeepsLimits};
 ghost use Rattle.placement.specs.Loads.{IsLoaded};
-ghost use Rattle.placement.specs.Steps.{AreMade, IsMade, Tell};
+ghost use Rattle.placement.specs.Steps.{Tell};
+ghost use Rattle.placement.specs.Inner.Steps.{AreMade, IsMade};
 ghost use Rattle.placement.specs.Scores.{scores_of};
 
 use crate::ScoreTable;

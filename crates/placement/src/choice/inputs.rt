@@ -4,10 +4,10 @@ ghost use Rattle.std.specs.Prelude.{◌≡◌, ℕ, List};
 ghost use Rattle.cluster_types.specs.declared.journal.Event.{Event as EventOf};
 ghost use Rattle.cluster_types.specs.declared.journal.Promotion.{Promotion as PromotionOf};
 ghost use Rattle.cluster_types.specs.Rights.{rights_of};
-ghost use Rattle.cluster_types.specs.Unpacked.{states_of};
+ghost use Rattle.cluster_types.specs.UnpackedStates.{states_of};
 ghost use Rattle.cluster_types.specs.Valid.{KeepsLimits};
 ghost use Rattle.score.specs.NodeSet.{has};
-ghost use Rattle.placement.specs.Usable.{is_usable_by};
+ghost use Rattle.placement.specs.UsableNodes.{is_usable_by};
 
 use crate::{ScoreTable, usable_nodes};
 use cluster_types::{Cluster, Rights, States};

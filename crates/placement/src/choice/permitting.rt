@@ -5,7 +5,8 @@ ghost use Rattle.cluster_types.specs.Choice as choice;
 ghost use Rattle.cluster_types.specs.Tables.{targets_of};
 ghost use Rattle.score.specs.NodeSet.{has};
 ghost use Rattle.placement.specs.Reads as spec;
-ghost use Rattle.placement.specs.Usable.{is_usable_by};
+ghost use Rattle.placement.specs.Inner.Reads as inner;
+ghost use Rattle.placement.specs.UsableNodes.{is_usable_by};
 
 use crate::choice::cells::{active_count, is_kept};
 use crate::choice::inputs::Known;
@@ -47,7 +48,7 @@ fn is_open(known: &Known, table: &Table, decision: Decision, may_stay: bool, nod
 /// The usable nodes on which the decision is permitted: where the cluster may start the leaf, or what runs there may stay (Pacemaker Explained,
 /// "no-quorum-policy").
 pub(crate) fn open_nodes(known: &Known, table: &Table, decision: Decision) -> NodeSet
-    ensures { (n : ℕ) → has result n ≡ spec.is_open_in known.now.cluster.now known.now.states.now known.now.rights (targets_of table.now) decision n }
+    ensures { (n : ℕ) → has result n ≡ inner.is_open_in known.now.cluster.now known.now.states.now known.now.rights (targets_of table.now) decision n }
 {
     let stays = may_stay(known, decision.leaf());
     NodeSet::of(known.cluster.nodes.len() as u32, |node| {

@@ -3,7 +3,7 @@
 ghost use Rattle.std.specs.Prelude.{◌≡◌, ◌∷◌, [], length, map, IfOk};
 ghost use Rattle.std.specs.List.{range_with_len};
 ghost use Rattle.cluster_types.specs.Tables.{targets_of};
-ghost use Rattle.placement.specs.Reads as spec;
+ghost use Rattle.placement.specs.Inner.Reads as spec;
 ghost use Rattle.score.specs.Total.{total_of};
 
 use crate::choice::inputs::Known;

@@ -4,7 +4,7 @@ ghost use Rattle.std.specs.Prelude.{◌≡◌, ◌&&◌, ◌<◌, ◌≤◌, ℕ
 ghost use Rattle.cluster_types.specs.Choice as choice;
 ghost use Rattle.cluster_types.specs.Tables.{targets_of};
 ghost use Rattle.score.specs.NodeSet.{has};
-ghost use Rattle.placement.specs.Inner.Allowed as spec;
+ghost use Rattle.placement.specs.Inner.AllowedNodes as spec;
 
 use crate::{has_primary, keeps_apart};
 use cluster_types::{Cluster, Colocation, Decision, NodeId, Table};

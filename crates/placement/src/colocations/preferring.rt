@@ -7,7 +7,7 @@ ghost use Rattle.cluster_types.specs.Tables.{targets_of};
 ghost use Rattle.cluster_types.specs.Valid.{KeepsLimits};
 ghost use Rattle.placement.specs.Tests.{counts};
 ghost use Rattle.score.specs.Row.{finite_at};
-ghost use Rattle.placement.specs.Inner.Counted.{counted_scores};
+ghost use Rattle.placement.specs.Inner.CountedScores.{counted_scores};
 ghost use Rattle.score.specs.Total.{total_of};
 ghost use Rattle.placement.specs.Rows.{IsRow, IsRoomy, more_where};
 

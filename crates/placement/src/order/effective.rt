@@ -4,7 +4,7 @@ ghost use Rattle.std.specs.Prelude.{◌≡◌, length, map, IfOk};
 ghost use Rattle.cluster_types.specs.declared.placement.Decision.{Decision as DecisionOf};
 ghost use Rattle.cluster_types.specs.Decisions as decisions;
 ghost use Rattle.cluster_types.specs.Valid.{IsValid};
-ghost use Rattle.placement.specs.Inner.Effective.{effective_in};
+ghost use Rattle.placement.specs.Inner.EffectiveKeys.{effective_in};
 
 use crate::order::decision_set::DecisionSet;
 use crate::order::key_slots::key_at;

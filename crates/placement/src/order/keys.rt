@@ -6,7 +6,7 @@ ghost use Rattle.std.specs.List.{range_with_len};
 ghost use Rattle.cluster_types.specs.Decisions as decisions;
 ghost use Rattle.score.specs.NodeSet.{has};
 ghost use Rattle.placement.specs.Scores.{score_in};
-ghost use Rattle.placement.specs.Usable.{is_usable_by};
+ghost use Rattle.placement.specs.UsableNodes.{is_usable_by};
 ghost use Rattle.placement.specs.Inner.DecisionLists as spec;
 
 use crate::order::decision_set::DecisionSet;

@@ -7,11 +7,11 @@ ghost use Rattle.cluster_types.specs.declared.journal.Promotion.{Promotion as Pr
 ghost use Rattle.cluster_types.specs.declared.placement.Decision.{Decision as DecisionOf};
 ghost use Rattle.cluster_types.specs.Decisions.{Decides, leaf_of};
 ghost use Rattle.cluster_types.specs.Pins.{pin_of};
-ghost use Rattle.cluster_types.specs.Unpacked.{states_of};
+ghost use Rattle.cluster_types.specs.UnpackedStates.{states_of};
 ghost use Rattle.cluster_types.specs.Valid.{IsValid};
 ghost use Rattle.placement.specs.Scores.{scores_of};
 ghost use Rattle.placement.specs.Inner.DecisionLists.{decisions_in, compared_key};
-ghost use Rattle.placement.specs.Inner.Effective.{effective_in};
+ghost use Rattle.placement.specs.Inner.EffectiveKeys.{effective_in};
 ghost use Rattle.placement.specs.Inner.Turns.{AreInOrder};
 
 use crate::ScoreTable;
@@ -19,7 +19,7 @@ use crate::order::decision_set::DecisionSet;
 use crate::order::effective::effective_keys;
 use crate::order::keys::{Key, all_keys};
 use crate::order::ordering::in_order;
-use crate::order::ranked::all_sorted;
+use crate::order::ranked_decisions::all_sorted;
 use cluster_types::{Cluster, Decision, NoMemory, Pin, States};
 use faults::with;
 use std::alloc::{AllocError, Global};

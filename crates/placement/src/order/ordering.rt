@@ -6,13 +6,13 @@ ghost use Rattle.cluster_types.specs.Decisions as decisions;
 ghost use Rattle.cluster_types.specs.Valid.{IsValid};
 ghost use Rattle.placement.specs.Inner.Links.{links_in};
 ghost use Rattle.placement.specs.Inner.Queueing.{IsQueue, has_place};
-ghost use Rattle.placement.specs.declared.order.ranked.Ranked.{Ranked as RankedOf};
+ghost use Rattle.placement.specs.declared.order.ranked_decisions.Ranked.{Ranked as RankedOf};
 ghost use Rattle.placement.specs.Inner.Turns as spec;
 
 use crate::order::decision_set::DecisionSet;
 use crate::order::links::links_of;
 use crate::order::queue::Queue;
-use crate::order::ranked::{Ranked, slots_of};
+use crate::order::ranked_decisions::{Ranked, slots_of};
 use cluster_types::Decision;
 use faults::with;
 use std::alloc::{AllocError, Global};

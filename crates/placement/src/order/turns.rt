@@ -4,7 +4,7 @@ ghost use Rattle.std.specs.Prelude.{◌≡◌, ◌&&◌, ◌||◌, ◌==◌, not
 ghost use Rattle.cluster_types.specs.Decisions as decisions;
 ghost use Rattle.placement.specs.Inner.Turns as spec;
 
-use crate::order::ranked::Ranked;
+use crate::order::ranked_decisions::Ranked;
 use cluster_types::Decision;
 
 fn is_place(decision: Decision) -> bool

@@ -3,7 +3,7 @@
 ghost use Rattle.std.specs.Prelude.{◌≡◌, ◌<◌, length, IfOk};
 ghost use Rattle.cluster_types.specs.Valid.{IsValid};
 ghost use Rattle.placement.specs.Inner.LendingRows as spec;
-ghost use Rattle.placement.specs.OwnRows.{terms_by};
+ghost use Rattle.placement.specs.Inner.OwnRows.{terms_by};
 ghost use Rattle.placement.specs.Rows.{IsRow};
 ghost use Rattle.placement.specs.Ties.{AreTies, tied_within};
 

@@ -5,6 +5,7 @@ ghost use Rattle.cluster_types.specs.Valid.{IsValid};
 ghost use Rattle.score.specs.NodeSet.{has};
 ghost use Rattle.score.specs.Row.{finite_at};
 ghost use Rattle.placement.specs.Locations as spec;
+ghost use Rattle.placement.specs.Inner.Locations as inner;
 ghost use Rattle.placement.specs.Rows.{IsRow, IsRoomy, more_where};
 
 use crate::totals::putting::{put_each, put_if};
@@ -39,7 +40,7 @@ pub fn nodes_of(cluster: &Cluster, rule: &RuleLocation, moment: u64) -> NodeSet
 
 /// Whether what has this leaf and this role is of the leaf, in the role.
 fn is_of(its_leaf: LeafId, its_role: Role, leaf: LeafId, role: Role) -> bool
-    ensures { result ≡ (its_leaf == leaf && spec.is_role role its_role) }
+    ensures { result ≡ (its_leaf == leaf && inner.is_role role its_role) }
 {
     its_leaf == leaf && its_role == role
 }
@@ -49,7 +50,7 @@ fn put_location(row: &mut Row, rule: &Location, leaf: LeafId, role: Role)
     requires node { rule.now.node < length row.old }
     requires room { IsRoomy (finite_at row.old rule.now.node) }
     ensures terms { (nodes : ℕ) (terms : ℕ → List ℤ) → nodes ≡ length row.old → IsRow nodes terms row.old
-        → IsRow nodes (more_where (λ n. (rule.now.leaf == leaf && spec.is_role role rule.now.role) && rule.now.node == n) rule.now.score terms)
+        → IsRow nodes (more_where (λ n. (rule.now.leaf == leaf && inner.is_role role rule.now.role) && rule.now.node == n) rule.now.score terms)
         row.new }
     ensures nodes { length row.new ≡ length row.old }
 {
@@ -60,7 +61,7 @@ fn put_location(row: &mut Row, rule: &Location, leaf: LeafId, role: Role)
 /// The row of what the locations without rules give the leaf in the role.
 fn located_row(alloc: Global, cluster: &Cluster, leaf: LeafId, role: Role) -> Result<Row, NoMemory>
     requires { IsValid cluster.now }
-    ensures { IfOk result (λ row. IsRow (length cluster.now.nodes) (spec.located (spec.is_role role) leaf cluster.now.locations) row) }
+    ensures { IfOk result (λ row. IsRow (length cluster.now.nodes) (spec.located (inner.is_role role) leaf cluster.now.locations) row) }
 {
     let mut row = Row::zeros(alloc, cluster.nodes.len() as u32)?;
     for rule in cluster.locations.as_slice() {
@@ -83,7 +84,7 @@ fn put_rule(
     requires room { (n : ℕ) → IsRoomy (finite_at row.old n) }
     ensures { (terms : ℕ → List ℤ) → IsRow (length cluster.now.nodes) terms row.old
         → IsRow (length cluster.now.nodes)
-        (more_where (λ n. (rule.now.leaf == leaf && spec.is_role role rule.now.role) && spec.rule_holds_by cluster.now moment rule.now n)
+        (more_where (λ n. (rule.now.leaf == leaf && inner.is_role role rule.now.role) && spec.rule_holds_by cluster.now moment rule.now n)
         rule.now.score terms) row.new }
 {
     if is_of(rule.leaf, rule.role, leaf, role) {
@@ -102,7 +103,7 @@ pub(crate) fn given_row(
 ) -> Result<Row, NoMemory>
     requires { IsValid cluster.now }
     ensures { IfOk result (λ row. IsRow (length cluster.now.nodes)
-        (spec.scores_given cluster.now moment (spec.is_role role) leaf cluster.now.locations cluster.now.rule_locations) row) }
+        (spec.scores_given cluster.now moment (inner.is_role role) leaf cluster.now.locations cluster.now.rule_locations) row) }
 {
     let mut row = located_row(alloc, cluster, leaf, role)?;
     for rule in cluster.rule_locations.as_slice() {

@@ -5,7 +5,7 @@ ghost use Rattle.cluster_types.specs.Valid.{IsValid, KeepsLimits};
 ghost use Rattle.score.specs.NodeSet.{has};
 ghost use Rattle.placement.specs.OwnRows.{AreOwnRows, own_by};
 ghost use Rattle.placement.specs.Rows.{IsRow};
-ghost use Rattle.placement.specs.Usable.{is_usable_by};
+ghost use Rattle.placement.specs.UsableNodes.{is_usable_by};
 
 use crate::totals::own::own_row;
 use cluster_types::{Cluster, LeafId, NodeId, States};

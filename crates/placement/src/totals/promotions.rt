@@ -5,6 +5,7 @@ ghost use Rattle.cluster_types.specs.declared.journal.Promotion.{Promotion as Pr
 ghost use Rattle.cluster_types.specs.Valid.{IsValid, KeepsLimits};
 ghost use Rattle.cluster_types.specs.Terms.{promotion_score};
 ghost use Rattle.placement.specs.Promotions as spec;
+ghost use Rattle.placement.specs.Inner.Promotions as inner;
 ghost use Rattle.placement.specs.Rows.{IsRow};
 
 use crate::totals::locations::given_row;
@@ -16,7 +17,7 @@ use std::alloc::{AllocError, Global};
 
 /// Whether nothing is kept at a place that is there.
 fn is_free(said: &[Option<Score>], place: usize) -> bool
-    ensures { result ≡ spec.is_vacant said.now place }
+    ensures { result ≡ inner.is_vacant said.now place }
 {
     match said.get(place) {
         Some(kept) => kept.is_none(),
@@ -80,7 +81,7 @@ pub(crate) fn promote_row(
     requires valid { IsValid cluster.now }
     requires leaf { leaf < length cluster.now.leaves }
     ensures { IfOk result (λ row. (promotions : List PromotionOf) → spec.AreSaid cluster.now promotions said.now
-        → IsRow (length cluster.now.nodes) (spec.wished_by cluster.now moment promotions leaf) row) }
+        → IsRow (length cluster.now.nodes) (inner.wished_by cluster.now moment promotions leaf) row) }
 {
     let mut row = given_row(alloc, cluster, leaf, Role::Promoted, moment)?;
     for node in 0..cluster.nodes.len() {

@@ -4,7 +4,7 @@ ghost use Rattle.std.specs.Prelude.{◌≡◌, ◌<◌, ◌++◌, ℕ, List, len
 ghost use Rattle.std.specs.List.{range_with_len};
 ghost use Rattle.cluster_types.specs.declared.journal.Event.{Event};
 ghost use Rattle.cluster_types.specs.declared.journal.Promotion.{Promotion as PromotionOf};
-ghost use Rattle.cluster_types.specs.Unpacked.{states_of};
+ghost use Rattle.cluster_types.specs.UnpackedStates.{states_of};
 ghost use Rattle.cluster_types.specs.Valid.{IsValid};
 ghost use Rattle.placement.specs.Inner.ScoresByStates as by_states;
 ghost use Rattle.placement.specs.Promotions.{AreSaid};

@@ -10,6 +10,7 @@ ghost use Rattle.edges.specs.declared.edge.Edge.{Edge as EdgeOf};
 ghost use Rattle.edges.specs.Loops.{HasNoLoop};
 ghost use Rattle.placement.specs.ChainOrder.{AreEdgesInOrder};
 ghost use Rattle.placement.specs.Ties as spec;
+ghost use Rattle.placement.specs.Inner.Ties as inner;
 
 use crate::chain_order::put_in_order;
 use cluster_types::{Cluster, Colocation, LeafId, Role};
@@ -65,7 +66,7 @@ pub(crate) fn is_marked(marks: &[bool], leaf: LeafId) -> bool
 
 /// Whether the leaf is there and has no mark.
 fn lacks_mark(marks: &[bool], leaf: LeafId) -> bool
-    ensures { result ≡ spec.lacks_mark marks.now leaf }
+    ensures { result ≡ inner.lacks_mark marks.now leaf }
 {
     match marks.get(leaf as usize) {
         Some(mark) => !*mark,
@@ -75,7 +76,7 @@ fn lacks_mark(marks: &[bool], leaf: LeafId) -> bool
 
 /// Gives the leaf a mark, if it is wanted and the leaf is there.
 fn mark_if(marks: &mut Vec<bool>, leaf: LeafId, wanted: bool)
-    ensures { marks.new.items ≡ spec.with_mark_if marks.old.items leaf wanted }
+    ensures { marks.new.items ≡ inner.with_mark_if marks.old.items leaf wanted }
 {
     let at = leaf as usize;
     if wanted && at < marks.len() {
@@ -85,15 +86,15 @@ fn mark_if(marks: &mut Vec<bool>, leaf: LeafId, wanted: bool)
 
 /// Whether the dependent lacks a mark, and is tied to the leaf or to one that has a mark.
 fn is_missed(tie: Edge, leaf: LeafId, marks: &[bool]) -> bool
-    ensures { result ≡ spec.is_missed leaf marks.now tie }
+    ensures { result ≡ inner.is_missed leaf marks.now tie }
 {
     lacks_mark(marks, tie.after) && (tie.before == leaf || is_marked(marks, tie.before))
 }
 
 /// Marks the dependent if it was missed, and says whether it was.
 fn follow(tie: Edge, leaf: LeafId, marks: &mut Vec<bool>) -> bool
-    ensures missed { result ≡ spec.is_missed leaf marks.old.items tie }
-    ensures marks { marks.new.items ≡ spec.with_mark_if marks.old.items tie.after (spec.is_missed leaf marks.old.items tie) }
+    ensures missed { result ≡ inner.is_missed leaf marks.old.items tie }
+    ensures marks { marks.new.items ≡ inner.with_mark_if marks.old.items tie.after (inner.is_missed leaf marks.old.items tie) }
 {
     let missed = is_missed(tie, leaf, marks);
     mark_if(marks, tie.after, missed);
@@ -102,9 +103,9 @@ fn follow(tie: Edge, leaf: LeafId, marks: &mut Vec<bool>) -> bool
 
 /// One pass over the ties: whether it marked a leaf.
 fn pass(ties: &[Edge], leaf: LeafId, marks: &mut Vec<bool>) -> bool
-    ensures tied { (c : ClusterOf) → spec.AreTies c ties.now → spec.AreTied c leaf marks.old.items → spec.AreTied c leaf marks.new.items }
-    ensures fewer { spec.unmarked marks.new.items + cond result 1 0 ≤ spec.unmarked marks.old.items }
-    ensures none { result ≡ false → (tie : EdgeOf) → Contains ties.now tie → spec.is_missed leaf marks.new.items tie ≡ false }
+    ensures tied { (c : ClusterOf) → spec.AreTies c ties.now → inner.AreTied c leaf marks.old.items → inner.AreTied c leaf marks.new.items }
+    ensures fewer { inner.unmarked marks.new.items + cond result 1 0 ≤ inner.unmarked marks.old.items }
+    ensures none { result ≡ false → (tie : EdgeOf) → Contains ties.now tie → inner.is_missed leaf marks.new.items tie ≡ false }
 {
     let mut changed = false;
     for tie in ties {

@@ -17,13 +17,13 @@ use Rattle.cluster_types.specs.declared.states.NodeState.{NodeState}
 use Rattle.cluster_types.specs.declared.states.CellState.TheVariants as cell
 use Rattle.cluster_types.specs.Choice.{is_separation}
 use Rattle.cluster_types.specs.Fields.{is_cloned, is_promotable, may_migrate, monitors}
-use Rattle.cluster_types.specs.Needed.{is_monitor_for}
+use Rattle.cluster_types.specs.NeededActions.{is_monitor_for}
 use Rattle.cluster_types.specs.NodeStates.{is_unclean_state}
 use Rattle.cluster_types.specs.Pins.{is_unprobed_state}
 use Rattle.cluster_types.specs.Precedence.{is_same_op, is_serialize}
-use Rattle.planner.specs.Cycling.{MarkedCells}
+use Rattle.planner.specs.CycledCells.{MarkedCells}
 use Rattle.planner.specs.Inner.Levels.{steps_by}
-use Rattle.planner.specs.declared.needed.steps.CellNeed.{CellNeed}
+use Rattle.planner.specs.declared.needed_actions.steps.CellNeed.{CellNeed}
 
 abbrev pub includes_op : Op → List Op → Bool
 includes_op o steps = list_any (is_same_op o) steps

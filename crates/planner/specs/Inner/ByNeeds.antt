@@ -2,13 +2,13 @@
 use Rattle.std.specs.Prelude.{ℕ, ◌&&◌, ◌||◌, Bool, true, false, if◌then◌else◌, List, slice_index_or, count_by}
 use Rattle.std.specs.List.{range_with_len}
 use Rattle.cluster_types.specs.declared.rules.Order.{Order}
-use Rattle.cluster_types.specs.Needed.{has_disturbing}
+use Rattle.cluster_types.specs.NeededActions.{has_disturbing}
 use Rattle.cluster_types.specs.Precedence.{role_given}
 use Rattle.cluster_types.specs.Tables.{target_holds}
 use Rattle.cluster_types.specs.Terms.{is_active}
-use Rattle.planner.specs.Cycling.{MarkedCells}
+use Rattle.planner.specs.CycledCells.{MarkedCells}
 use Rattle.planner.specs.Inner.Levels.{need_in, steps_by}
-use Rattle.planner.specs.declared.needed.steps.CellNeed.{CellNeed}
+use Rattle.planner.specs.declared.needed_actions.steps.CellNeed.{CellNeed}
 
 -- the first of the order is disturbed on node m
 abbrev pub is_disturbed_by_needs : ℕ → List CellNeed → MarkedCells → Order → ℕ → Bool

@@ -6,11 +6,11 @@ use Rattle.cluster_types.specs.declared.placement.Pin.{Pin}
 use Rattle.cluster_types.specs.declared.placement.Table.{Table}
 use Rattle.cluster_types.specs.declared.placement.Target.{Target}
 use Rattle.cluster_types.specs.declared.states.Cell.{Cell}
-use Rattle.cluster_types.specs.Needed.{runs}
+use Rattle.cluster_types.specs.NeededActions.{runs}
 use Rattle.cluster_types.specs.Pins.{is_pinned_in}
 use Rattle.cluster_types.specs.Tables.{is_somewhere, targets_of}
 use Rattle.planner.specs.Inner.Levels.{no_need}
-use Rattle.planner.specs.declared.needed.steps.CellNeed.{CellNeed}
+use Rattle.planner.specs.declared.needed_actions.steps.CellNeed.{CellNeed}
 
 abbrev pub need_from : Cell → Target → Bool → Bool → CellNeed
 need_from known target pinned starts = record {

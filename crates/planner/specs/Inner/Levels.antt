@@ -9,13 +9,13 @@ use Rattle.cluster_types.specs.declared.rules.Order.{Order}
 use Rattle.cluster_types.specs.declared.states.CellState.TheVariants as cell
 use Rattle.cluster_types.specs.CellStates.{cell_state}
 use Rattle.cluster_types.specs.May.{may_be_running}
-use Rattle.cluster_types.specs.Needed.{can_cycle, steps_of}
+use Rattle.cluster_types.specs.NeededActions.{can_cycle, steps_of}
 use Rattle.cluster_types.specs.Numbers.{rank, step_of}
 use Rattle.cluster_types.specs.Pins.{is_pinned}
 use Rattle.cluster_types.specs.Tables.{Targets}
-use Rattle.cluster_types.specs.Unpacked.{running_bits}
-use Rattle.planner.specs.Cycling.{MarkedCells, is_cycling}
-use Rattle.planner.specs.declared.needed.steps.CellNeed.{CellNeed}
+use Rattle.cluster_types.specs.UnpackedStates.{running_bits}
+use Rattle.planner.specs.CycledCells.{MarkedCells, is_cycling}
+use Rattle.planner.specs.declared.needed_actions.steps.CellNeed.{CellNeed}
 
 abbrev pub steps_by : CellNeed → Bool → List Op
 steps_by need cycled = if need.pinned then [] else steps_of need.state need.target cycled

@@ -2,12 +2,12 @@
 use Rattle.std.specs.Prelude.{◌≡◌, ◌↔◌, ℕ, true, List, length}
 use Rattle.cluster_types.specs.declared.cluster.Cluster.{Cluster}
 use Rattle.cluster_types.specs.declared.journal.Event.{Event}
-use Rattle.cluster_types.specs.Needed.{Cycled}
+use Rattle.cluster_types.specs.NeededActions.{Cycled}
 use Rattle.cluster_types.specs.Tables.{Targets}
-use Rattle.planner.specs.Cycling.{MarkedCells}
+use Rattle.planner.specs.CycledCells.{MarkedCells}
 use Rattle.planner.specs.Inner.Levels.{AreNeeds, marks_in, need_in}
-use Rattle.planner.specs.declared.needed.steps.CellNeed.{CellNeed}
-use Rattle.planner.specs.declared.needed.work.CellWork.{CellWork}
+use Rattle.planner.specs.declared.needed_actions.steps.CellNeed.{CellNeed}
+use Rattle.planner.specs.declared.needed_actions.work.CellWork.{CellWork}
 
 abbrev pub needs_of : CellWork → ℕ → ℕ → CellNeed
 needs_of work = need_in work.marks.nodes work.needs.items

@@ -1,8 +1,8 @@
 //! The positions of the actions that change a cell, node by node.
 
 ghost use Rattle.std.specs.Prelude.{◌≡◌, ◌<◌, All, IfOk, length, vec_len};
-ghost use Rattle.planner.specs.Chains as spec;
-ghost use Rattle.planner.specs.Chains.{AreBuckets};
+ghost use Rattle.planner.specs.Inner.Chains as spec;
+ghost use Rattle.planner.specs.Inner.Chains.{AreBuckets};
 
 use crate::precedence::index::add_place;
 use crate::precedence::inputs::Known;

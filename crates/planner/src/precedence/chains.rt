@@ -2,8 +2,8 @@
 
 ghost use Rattle.std.specs.Prelude.{◌≡◌, ◌++◌, ◌∷◌, [], ◌<◌, ◌≤◌, ◌+◌, All, IfOk, OnOk, if◌then◌else◌, length};
 ghost use Rattle.planner.specs.Chains as spec;
-ghost use Rattle.planner.specs.Chains.{changes_by};
-ghost use Rattle.planner.specs.Gates.{chain_edges, chain_step, edge, last_gate, next_gate, then_step};
+ghost use Rattle.planner.specs.Inner.Chains.{changes_by};
+ghost use Rattle.planner.specs.Inner.Gates.{chain_edges, chain_step, edge, last_gate, next_gate, then_step};
 
 use crate::precedence::edge_building::Building;
 use crate::precedence::gates::push;

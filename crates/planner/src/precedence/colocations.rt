@@ -2,12 +2,12 @@
 
 ghost use Rattle.std.specs.Prelude.{◌≡◌, ◌+◌, ◌*◌, ◌++◌, ◌<◌, ◌≤◌, List, OnOk, length};
 ghost use Rattle.planner.specs.declared.precedence.sides.Join.{Join as JoinOf};
-ghost use Rattle.planner.specs.Gates.{join_edges, key_at};
+ghost use Rattle.planner.specs.Inner.Gates.{join_edges, key_at};
 ghost use Rattle.planner.specs.Inner.Index as indexed;
 ghost use Rattle.planner.specs.Joins.{colocation_joins};
 ghost use Rattle.planner.specs.Inner.Places.{places_of};
-ghost use Rattle.planner.specs.Rooms as rooms;
-ghost use Rattle.planner.specs.Rooms.{Builds};
+ghost use Rattle.planner.specs.Inner.Rooms as rooms;
+ghost use Rattle.planner.specs.Inner.Rooms.{Builds};
 
 use crate::precedence::edge_building::Building;
 use crate::precedence::index::places_in;

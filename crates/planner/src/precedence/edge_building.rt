@@ -2,12 +2,12 @@
 
 ghost use Rattle.std.specs.Prelude.{◌≡◌, ◌+◌, ◌*◌, ◌++◌, ◌<◌, ◌≤◌, [], All, IfOk, OnOk, length};
 ghost use Rattle.std.specs.List.{range_with_len};
-ghost use Rattle.planner.specs.Gates.{join_edges, key_at};
+ghost use Rattle.planner.specs.Inner.Gates.{join_edges, key_at};
 ghost use Rattle.planner.specs.Joins.{first_joins, join as spec_join};
 ghost use Rattle.planner.specs.Inner.Places.{places_of};
-ghost use Rattle.planner.specs.Precede.{first_gates};
-ghost use Rattle.planner.specs.Rooms as rooms;
-ghost use Rattle.planner.specs.Rooms.{Builds};
+ghost use Rattle.planner.specs.PrecedenceEdges.{first_gates};
+ghost use Rattle.planner.specs.Inner.Rooms as rooms;
+ghost use Rattle.planner.specs.Inner.Rooms.{Builds};
 
 use crate::precedence::gates::add_join;
 use crate::precedence::inputs::Known;

@@ -1,9 +1,9 @@
 //! The edges of joins, through a gate for each cell.
 
 ghost use Rattle.std.specs.Prelude.{◌≡◌, ◌++◌, ◌∷◌, [], ◌<◌, ◌≤◌, All, IfSome, OnOk, length};
-ghost use Rattle.planner.specs.Gates.{edge, edge_in, edge_out, gate_edges_at, gate_of, join_edges, key_at};
+ghost use Rattle.planner.specs.Inner.Gates.{edge, edge_in, edge_out, gate_edges_at, gate_of, join_edges, key_at};
 ghost use Rattle.planner.specs.Inner.Leaves as leaves;
-ghost use Rattle.planner.specs.Rooms.{GatesHaveRoom};
+ghost use Rattle.planner.specs.Inner.Rooms.{GatesHaveRoom};
 
 use crate::precedence::inputs::Known;
 use crate::precedence::keys::{Key, key_of};

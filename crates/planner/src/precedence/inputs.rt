@@ -7,7 +7,8 @@ ghost use Rattle.cluster_types.specs.declared.rules.Order.{Order as OrderOf};
 ghost use Rattle.cluster_types.specs.Numbers.{is_earlier};
 ghost use Rattle.cluster_types.specs.Plans.{most_edges};
 ghost use Rattle.planner.specs.Inner.Index.{IsIndex};
-ghost use Rattle.planner.specs.Rooms.{IsActionWithin, all_within_prop};
+ghost use Rattle.planner.specs.Inner.Rooms.{all_within_prop};
+ghost use Rattle.planner.specs.ActionNames.{IsActionWithin};
 ghost use Rattle.loops.specs.Ranks.{AreMigrating};
 
 use cluster_types::{Action, Cluster};

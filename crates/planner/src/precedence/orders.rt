@@ -6,7 +6,7 @@ ghost use Rattle.planner.specs.declared.precedence.sides.Join.{Join as JoinOf};
 ghost use Rattle.planner.specs.Joins as joins;
 ghost use Rattle.planner.specs.Joins.{order_joins};
 ghost use Rattle.planner.specs.Inner.Places.{places_of};
-ghost use Rattle.planner.specs.Rooms.{Builds};
+ghost use Rattle.planner.specs.Inner.Rooms.{Builds};
 
 use crate::precedence::colocations::add_rule;
 use crate::precedence::edge_building::Building;

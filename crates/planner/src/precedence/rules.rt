@@ -3,13 +3,13 @@
 ghost use Rattle.std.specs.Prelude.{◌≡◌, ◌+◌, ◌*◌, ◌++◌, ◌<◌, ◌≤◌, List, OnOk, length, sum_by, true};
 ghost use Rattle.std.specs.List.{flat_map, list_any};
 ghost use Rattle.cluster_types.specs.Numbers.{is_earlier};
-ghost use Rattle.planner.specs.Chains.{serialized_at};
+ghost use Rattle.planner.specs.Inner.Chains.{serialized_at};
 ghost use Rattle.planner.specs.Inner.Groups.{AddsGroup};
 ghost use Rattle.planner.specs.Inner.Serials.{most_serial, serial_room};
 ghost use Rattle.planner.specs.declared.precedence.sides.Join.{Join as JoinOf};
 ghost use Rattle.planner.specs.Joins.{colocation_joins, order_joins};
 ghost use Rattle.planner.specs.Inner.Places.{places_of};
-ghost use Rattle.planner.specs.Rooms.{Builds};
+ghost use Rattle.planner.specs.Inner.Rooms.{Builds};
 
 use crate::precedence::colocations::add_colocation;
 use crate::precedence::edge_building::Building;

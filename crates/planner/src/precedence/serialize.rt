@@ -1,7 +1,8 @@
 //! The edges of an order of the kind Serialize, over the positions of its actions in the order of numbers.
 
 ghost use Rattle.std.specs.Prelude.{◌≡◌, ◌<◌, ◌≤◌, ◌+◌, ◌*◌, [], true, All, OnOk, length, slice_get, unwrap_or};
-ghost use Rattle.planner.specs.Chains.{IsChained, IsChainedSomewhere};
+ghost use Rattle.planner.specs.Chains.{IsChained};
+ghost use Rattle.planner.specs.Inner.Chains.{IsChainedSomewhere};
 ghost use Rattle.planner.specs.Inner.Groups.{AddsGroup};
 
 use crate::precedence::buckets::node_buckets;

@@ -2,7 +2,7 @@
 
 ghost use Rattle.std.specs.Prelude.{◌≡◌, ◌+◌, ◌<◌, ◌≤◌, IfOk, OnOk, length, true};
 ghost use Rattle.cluster_types.specs.Numbers.{is_earlier};
-ghost use Rattle.planner.specs.Chains.{serialized_at};
+ghost use Rattle.planner.specs.Inner.Chains.{serialized_at};
 ghost use Rattle.planner.specs.Inner.Groups.{AddsGroup};
 ghost use Rattle.planner.specs.Inner.Index as indexed;
 ghost use Rattle.planner.specs.Inner.Serials.{AreAscending, AreSerials, most_serial, serial_room};

@@ -7,8 +7,9 @@ ghost use Rattle.cluster_types.specs.Plans.{most_edges};
 ghost use Rattle.cluster_types.specs.Valid.{IsValid};
 ghost use Rattle.planner.specs.Joins.{joins_of};
 ghost use Rattle.planner.specs.Inner.Places.{places_of};
-ghost use Rattle.planner.specs.Precede.{AreEdges, first_gates};
-ghost use Rattle.planner.specs.Rooms.{Builds, IsActionWithin};
+ghost use Rattle.planner.specs.PrecedenceEdges.{AreEdges, first_gates};
+ghost use Rattle.planner.specs.Inner.Rooms.{Builds};
+ghost use Rattle.planner.specs.ActionNames.{IsActionWithin};
 
 use crate::precedence::edge_building::{Building, first_edges};
 use crate::precedence::index::leaf_index;

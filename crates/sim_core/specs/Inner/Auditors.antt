@@ -8,9 +8,9 @@ use Rattle.cluster_types.specs.declared.run.RunLine.TheVariants as line
 use Rattle.cluster_types.specs.Texts.{event_lines}
 use Rattle.graph_exec.specs.declared.transition.watcher.Heard.{Heard}
 use Rattle.graph_exec.specs.declared.transition.watcher.Heard.TheVariants as heard
-use Rattle.graph_exec.specs.Telling.{RunView}
+use Rattle.graph_exec.specs.WatcherLines.{RunView}
 use Rattle.sim_core.specs.declared.auditor.Auditor.{Auditor}
-use Rattle.sim_core.specs.Lawful.{clause_of, said}
+use Rattle.sim_core.specs.LawfulRuns.{clause_of, said}
 
 -- the cluster of the run, and the written lines
 abbrev pub audited_cluster : Auditor → Cluster

@@ -13,8 +13,8 @@ use Rattle.sim_core.specs.declared.status.Status.{Status}
 use Rattle.sim_core.specs.declared.status.Status.TheVariants.{Done, NoMemory, ReadFault, WriteFault, Refused, Unexpected, TooLarge}
 use Rattle.input_reading.specs.Causes.{refusal_text}
 use Rattle.input_reading.specs.Reading.{longest_line, most_bytes}
-use Rattle.sim_core.specs.Live.{IsAmidHead}
-use Rattle.sim_core.specs.Replay.{IsBegun, IsHeadFault, head_in}
+use Rattle.sim_core.specs.LiveAnswers.{IsAmidHead}
+use Rattle.sim_core.specs.Replay.{IsHeadRead, IsHeadFault, head_in}
 
 -- a reader from which nothing was read yet
 abbrev pub fresh : Reading
@@ -24,7 +24,7 @@ fresh = record { held = []; raw = []; number = 0; next = 1; room = most_bytes; l
 pub record IsBehind (input : List ℕ) (head : Head) (reading : Reading) (left : Option (List ℕ)) : Type 0 where
   pub bytes : List ℕ
   pub unread : List ℕ
-  pub begun : IsBegun input bytes head reading.next reading.room
+  pub begun : IsHeadRead input bytes head reading.next reading.room
   pub left_is : left ≡ Some unread
   pub parts : input ≡ bytes ++ (reading.held ++ unread)
   pub short : length reading.held < 4096

@@ -9,7 +9,7 @@ use Rattle.cluster_types.specs.declared.placement.Placed.{Placed}
 use Rattle.cluster_types.specs.declared.placement.Target.{Target}
 use Rattle.cluster_types.specs.declared.run.RunLine.{RunLine}
 use Rattle.cluster_types.specs.Tables.{targets_of}
-use Rattle.cluster_types.specs.Texts.{goal_line, lacking_lines, leaf_lines, pin_lines}
+use Rattle.cluster_types.specs.Texts.{goal_lines, lacking_lines, leaf_lines, pin_lines}
 use Rattle.cluster_types.specs.Valid.{KeepsLimits}
 use Rattle.crm_lex.specs.Names.{is_name}
 use Rattle.trace_text.specs.RunLines.{lent_line}
@@ -20,7 +20,7 @@ use Rattle.trace_text.specs.declared.target_walk.LinePlace.{LinePlace}
 
 module _ (c : Cluster) (pins : List (Option Pin)) (targets : ℕ → ℕ → Target) (none : List (Option NoReason)) where
   abbrev pub goal_lines_from : ℕ → ℕ → List RunLine
-  goal_lines_from r n = flat_map (λ m. goal_line c r m (targets r m)) (range_with_len n (length c.nodes - n))
+  goal_lines_from r n = flat_map (λ m. goal_lines c r m (targets r m)) (range_with_len n (length c.nodes - n))
 
   abbrev pub reason_lines : ℕ → List RunLine
   reason_lines r = lacking_lines c r (unwrap_or (slice_get none r) None)
@@ -42,7 +42,7 @@ module _ (c : Cluster) (pins : List (Option Pin)) (targets : ℕ → ℕ → Tar
   -- the line at a place, if one stands there
   abbrev pub lines_in : ℕ → LineColumn → List RunLine
   lines_in r column.Pin = pin_lines c r (unwrap_or (slice_get pins r) None)
-  lines_in r (column.Goal n) = if nat_lt n (length c.nodes) then goal_line c r n (targets r n) else []
+  lines_in r (column.Goal n) = if nat_lt n (length c.nodes) then goal_lines c r n (targets r n) else []
   lines_in r column.Reason = reason_lines r
 
 -- those of a placement from a place on
@@ -59,14 +59,14 @@ next_place c at = behind at.column
     behind column.Reason = record { leaf = at.leaf + 1; column = column.Pin }
 
 -- how many places of a leaf come before a column
-abbrev pub column_rank : Cluster → LineColumn → ℕ
-column_rank c column.Pin = 0
-column_rank c (column.Goal n) = 1 + (if nat_lt n (length c.nodes) then n else length c.nodes)
-column_rank c column.Reason = length c.nodes + 2
+abbrev pub column_place : Cluster → LineColumn → ℕ
+column_place c column.Pin = 0
+column_place c (column.Goal n) = 1 + (if nat_lt n (length c.nodes) then n else length c.nodes)
+column_place c column.Reason = length c.nodes + 2
 
 -- how many places are left at most
 abbrev pub places_left : Cluster → LinePlace → ℕ
-places_left c at = (length c.leaves - at.leaf) * (length c.nodes + 3) - column_rank c at.column
+places_left c at = (length c.leaves - at.leaf) * (length c.nodes + 3) - column_place c at.column
 
 -- the id of each rule that holds a leaf back is a name
 abbrev pub AreReasonsNamed : List (Option NoReason) → Type 0

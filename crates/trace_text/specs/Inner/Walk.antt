@@ -4,8 +4,8 @@ use Rattle.std.specs.List.{range_with_len}
 use Rattle.cluster_types.specs.Graphs.{GraphOf, IsGraph, is_before}
 use Rattle.listed.specs.Sets.{members}
 use Rattle.trace_text.specs.declared.found_actions.Found.{Found}
-use Rattle.trace_text.specs.Inner.Arriving.{AreLinked}
-use Rattle.trace_text.specs.Inner.Found.{PositionsHaveRoom}
+use Rattle.trace_text.specs.Inner.ArrivingEdges.{AreLinked}
+use Rattle.trace_text.specs.Inner.FoundPositions.{PositionsHaveRoom}
 
 -- a graph, and the numbers that are still to be told, ascending
 pub record Walk : Type 0 where

@@ -7,7 +7,7 @@ use Rattle.cluster_types.specs.Tables.{targets_of}
 use Rattle.cluster_types.specs.Texts.{decision_line}
 use Rattle.decision_account.specs.Accounts.{node_lines, why_text}
 use Rattle.placement.specs.Reads.{may_stay_in}
-use Rattle.account_text.specs.Inner.Judged.{last_of}
+use Rattle.account_text.specs.Inner.VerdictsByStates.{last_of}
 use Rattle.account_text.specs.Inner.Sources.{lent_values}
 use Rattle.account_text.proofs.AccountLines.{decision_text}
 use Rattle.account_text.proofs.VerdictsRead.{last_within}

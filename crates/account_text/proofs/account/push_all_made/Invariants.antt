@@ -4,7 +4,7 @@ use Rattle.cluster_types.specs.declared.journal.Promotion.{Promotion}
 use Rattle.cluster_types.specs.Tables.{targets_of}
 use Rattle.placement.specs.Loads.{IsLoaded}
 use Rattle.placement.specs.Steps.{Tell}
-use Rattle.account_text.specs.Inner.Accounted.{AreAccounted, decisions_made}
+use Rattle.account_text.specs.Inner.AccountSoFar.{AreAccounted, decisions_made}
 use Rattle.account_text.proofs.account.push_all_made.Given as goal
 
 abbrev pub invariant-loop-made : goal.invariant-loop-made

@@ -6,7 +6,7 @@ use Rattle.cluster_types.specs.declared.states.States.{States}
 use Rattle.cluster_types.specs.Decisions.{leaf_of}
 use Rattle.decision_account.specs.Parts.{lender_of}
 use Rattle.placement.specs.Inner.LendingRows.{all_joined}
-use Rattle.account_text.specs.Inner.Told.{base_parts_by, joined_by, own_parts_by, parts_text}
+use Rattle.account_text.specs.Inner.PartsByStates.{base_parts_by, joined_by, own_parts_by, parts_text}
 use Rattle.account_text.proofs.DecidedLeaves.{joined_within}
 use Rattle.account_text.proofs.ToldTexts.{parts_of_all}
 use Rattle.account_text.proofs.account.push_base.Goals as goal

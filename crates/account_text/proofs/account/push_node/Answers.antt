@@ -5,9 +5,9 @@ use Rattle.cluster_types.specs.Tables.{targets_of}
 use Rattle.cluster_types.specs.Texts.{leaf_on, score_line}
 use Rattle.decision_account.specs.Accounts.{verdict_text}
 use Rattle.placement.specs.declared.choice.inputs.Known.{Known}
-use Rattle.account_text.specs.Inner.Asked.{verdict_asked}
+use Rattle.account_text.specs.Inner.AskedVerdicts.{verdict_asked}
 use Rattle.account_text.specs.Inner.Sides.{preference_part}
-use Rattle.account_text.specs.Inner.Told.{base_parts_by, parts_text}
+use Rattle.account_text.specs.Inner.PartsByStates.{base_parts_by, parts_text}
 use Rattle.account_text.proofs.NodeTexts.{node_more}
 use Rattle.account_text.proofs.account.push_node.Goals as goal
 

@@ -6,11 +6,11 @@ use Rattle.cluster_types.specs.Decisions.{leaf_of}
 use Rattle.cluster_types.specs.Pins.{pinned_targets}
 use Rattle.cluster_types.specs.Tables.{targets_of}
 use Rattle.cluster_types.specs.Texts.{run_line, target_lines}
-use Rattle.cluster_types.specs.Unpacked.{states_of}
+use Rattle.cluster_types.specs.UnpackedStates.{states_of}
 use Rattle.decision_account.specs.Accounts.{account_lines, why_text}
 use Rattle.placement.specs.Steps.{Tell}
 use Rattle.placement.specs.Scores.{scores_of}
-use Rattle.account_text.specs.Inner.Accounted.{decisions_made}
+use Rattle.account_text.specs.Inner.AccountSoFar.{decisions_made}
 use Rattle.account_text.specs.Inner.HeldTexts.{leaf_text}
 use Rattle.account_text.proofs.DecidedLeaves.{decided_below}
 use Rattle.account_text.proofs.WholeTexts.{decisions_back, whole_text}

@@ -1,7 +1,7 @@
 use Rattle.std.proofs.Common.{◌≡◌, ◌++◌, take}
 use Rattle.std.specs.List.{flat_map}
 use Rattle.decision_account.specs.Parts.{lender_of}
-use Rattle.account_text.specs.Inner.Told.{own_parts_by, parts_text}
+use Rattle.account_text.specs.Inner.PartsByStates.{own_parts_by, parts_text}
 use Rattle.account_text.proofs.base_parts.push_place.Given as goal
 
 abbrev pub invariant-loop-source : goal.invariant-loop-source

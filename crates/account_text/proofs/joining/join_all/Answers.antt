@@ -3,7 +3,7 @@ use Rattle.std.proofs.lemmas.List.FromFn.{get_or-map-range_with_len}
 use Rattle.cluster_types.specs.Terms.{is_tied}
 use Rattle.placement.specs.Inner.LendingRows.{joined_below, with_lender_by}
 use Rattle.placement.proofs.Lenders.{lend-more, lend-skip}
-use Rattle.account_text.specs.Inner.Joining.{IsJoined}
+use Rattle.account_text.specs.Inner.JoinedLeaves.{IsJoined}
 use Rattle.account_text.proofs.joining.join_all.Goals as goal
 
 pub loop-lender-preserved-then-not-flag_at : goal.loop-lender-preserved-then-not-flag_at

@@ -1,5 +1,5 @@
 use Rattle.placement.specs.Inner.LendingRows.{joined_below}
-use Rattle.account_text.specs.Inner.Joining.{IsJoined}
+use Rattle.account_text.specs.Inner.JoinedLeaves.{IsJoined}
 use Rattle.account_text.proofs.joining.join_all.Given as goal
 
 abbrev pub invariant-loop-lender : goal.invariant-loop-lender

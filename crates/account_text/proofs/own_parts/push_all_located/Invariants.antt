@@ -1,7 +1,7 @@
 use Rattle.std.proofs.Common.{◌≡◌, ◌++◌, take}
 use Rattle.std.specs.List.{flat_map}
-use Rattle.placement.specs.Locations.{is_role}
-use Rattle.account_text.specs.Inner.Told.{located_part, parts_text}
+use Rattle.placement.specs.Inner.Locations.{is_role}
+use Rattle.account_text.specs.Inner.PartsByStates.{located_part, parts_text}
 use Rattle.account_text.proofs.own_parts.push_all_located.Given as goal
 
 abbrev pub invariant-loop-rule : goal.invariant-loop-rule

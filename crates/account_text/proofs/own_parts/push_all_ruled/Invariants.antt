@@ -1,7 +1,7 @@
 use Rattle.std.proofs.Common.{◌≡◌, ◌++◌, take}
 use Rattle.std.specs.List.{flat_map}
-use Rattle.placement.specs.Locations.{is_role}
-use Rattle.account_text.specs.Inner.Told.{parts_text, ruled_part}
+use Rattle.placement.specs.Inner.Locations.{is_role}
+use Rattle.account_text.specs.Inner.PartsByStates.{parts_text, ruled_part}
 use Rattle.account_text.proofs.own_parts.push_all_ruled.Given as goal
 
 abbrev pub invariant-loop-ruled : goal.invariant-loop-ruled

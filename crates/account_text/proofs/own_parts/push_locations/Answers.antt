@@ -1,5 +1,5 @@
 use Rattle.std.proofs.Common.{rules}
-use Rattle.placement.specs.Locations.{is_role}
+use Rattle.placement.specs.Inner.Locations.{is_role}
 use Rattle.account_text.proofs.OwnTexts.{locations_more}
 use Rattle.account_text.proofs.own_parts.push_locations.Goals as goal
 

@@ -2,7 +2,7 @@ use Rattle.std.proofs.Common.{◌≡◌, ◌++◌, take}
 use Rattle.std.specs.List.{flat_map}
 use Rattle.cluster_types.specs.Tables.{targets_of}
 use Rattle.account_text.specs.Inner.Sides.{preference_part}
-use Rattle.account_text.specs.Inner.Told.{parts_text}
+use Rattle.account_text.specs.Inner.PartsByStates.{parts_text}
 use Rattle.account_text.proofs.sides.push_preferences.Given as goal
 
 abbrev pub invariant-loop-rule : goal.invariant-loop-rule

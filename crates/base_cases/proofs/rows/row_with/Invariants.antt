@@ -1,5 +1,5 @@
 use Rattle.std.proofs.Common.{◌≡◌, length}
-use Rattle.score.specs.Small.{IsSmallRow}
+use Rattle.score.specs.Inner.SmallRows.{IsSmallRow}
 use Rattle.base_cases.proofs.rows.row_with.Given as goal
 
 abbrev pub invariant-loop-i : goal.invariant-loop-i

@@ -1,6 +1,6 @@
 use Rattle.std.proofs.Common.{ℕ, List, arith, ap, length, ◌∙◌}
 use Rattle.std.proofs.lemmas.List.{take_rest}
-use Rattle.cluster_io.specs.Inner.Found.{before_feed}
+use Rattle.cluster_io.specs.Inner.FoundLines.{before_feed}
 use Rattle.cluster_io.proofs.Scans.{at_rest_too_long, at_rest_too_long_whole, at_rest_too_large, at_rest_open, at_rest_looked}
 use Rattle.cluster_io.proofs.Undecided.{undecided}
 use Rattle.cluster_io.proofs.line_scan.rest_of.Goals as goal

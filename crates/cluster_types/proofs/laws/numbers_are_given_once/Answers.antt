@@ -1,5 +1,5 @@
 use Rattle.cluster_types.proofs.NumberLaws.{one_list, one_number}
-use Rattle.cluster_types.specs.Needed.{Needed}
+use Rattle.cluster_types.specs.NeededActions.{Needed}
 use Rattle.cluster_types.proofs.laws.numbers_are_given_once.Goals as goal
 
 pub returns-clause-one_list : goal.returns-clause-one_list

@@ -1,5 +1,5 @@
 use Rattle.std.proofs.Common.{◌≡◌, slice_index_or, take}
-use Rattle.edges.specs.Longest as longest
+use Rattle.edges.specs.LongestChains as longest
 use Rattle.edges.proofs.measuring.above.Given as goal
 
 abbrev pub invariant-loop-place : goal.invariant-loop-place

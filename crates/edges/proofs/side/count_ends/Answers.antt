@@ -1,6 +1,7 @@
 use Rattle.std.proofs.Common.{arith, ◌≡◌, ◌<◌, ◌+◌, length, slice_index_or, ◌∙◌}
 use Rattle.std.proofs.lemmas.List.{get_or_read, length-set}
-use Rattle.edges.specs.Rows.{end_of, no_edge}
+use Rattle.edges.specs.Rows.{end_of}
+use Rattle.edges.specs.Inner.Rows.{no_edge}
 use Rattle.edges.proofs.Counted.{end_within, few_at, counted_more}
 use Rattle.edges.proofs.side.count_ends.Goals as goal
 

@@ -1,5 +1,5 @@
 use Rattle.std.proofs.Common.{◌≡◌, length}
-use Rattle.score.specs.Small.{IsSmallRow}
+use Rattle.score.specs.Inner.SmallRows.{IsSmallRow}
 use Rattle.lane_bench.proofs.data.row_of.Given as goal
 
 abbrev pub invariant-loop-node : goal.invariant-loop-node

@@ -1,6 +1,6 @@
 use Rattle.std.proofs.Common.{◌≡◌, ℕ, ◌+◌, ◌*◌, subst, ◌∙◌, arith}
 use Rattle.std.proofs.lemmas.Int.{ints}
-use Rattle.score.specs.Small.{IsSmallRow}
+use Rattle.score.specs.Inner.SmallRows.{IsSmallRow}
 use Rattle.score.proofs.SmallRows.{small_add}
 use Rattle.lane_bench.proofs.kernels.add_rows.Goals as goal
 

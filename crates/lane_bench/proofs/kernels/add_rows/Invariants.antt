@@ -1,5 +1,5 @@
 use Rattle.std.proofs.Common.{◌≡◌, ◌*◌, ◌-◌, length}
-use Rattle.score.specs.Small.{IsSmallRow}
+use Rattle.score.specs.Inner.SmallRows.{IsSmallRow}
 use Rattle.lane_bench.proofs.kernels.add_rows.Given as goal
 
 abbrev pub invariant-loop-round : goal.invariant-loop-round

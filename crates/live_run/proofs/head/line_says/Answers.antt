@@ -1,7 +1,7 @@
 use Rattle.std.proofs.Common.{List, ℕ, ap, sym, ◌∙◌}
 use Rattle.cluster_io.specs.LineReaders.{reading_of}
 use Rattle.crm_lex.specs.Reading.{reads_line}
-use Rattle.live_run.specs.Heads.{line_by_words, taken, verdict_by}
+use Rattle.live_run.specs.Heads.{line_by_words, taken, found_by}
 use Rattle.live_run.proofs.HeadBringing.{words_said}
 use Rattle.live_run.proofs.head.line_says.Goals as goal
 
@@ -11,5 +11,5 @@ returns-in-Ok-clause-says g c text reading others =
     let ends = taken text reading.next reading.room in
     words_said (reads_line c.number.result c.raw.result.now) c.lex_one.new.into c.begins_results.result c.ended.result _ (sym c.in-Ok.ensures.answer)
     c.in-Ok.ensures.words c.begins_results.ensures c.ended.ensures text reading others
-    ∙ ap (λ (n : ℕ). verdict_by (line_by_words (reads_line n c.raw.result.now)) ends others) c.number.ensures
-    ∙ ap (λ (raw : List ℕ). verdict_by (line_by_words (reads_line handed.number raw)) ends others) c.raw.ensures
+    ∙ ap (λ (n : ℕ). found_by (line_by_words (reads_line n c.raw.result.now)) ends others) c.number.ensures
+    ∙ ap (λ (raw : List ℕ). found_by (line_by_words (reads_line handed.number raw)) ends others) c.raw.ensures

@@ -1,5 +1,5 @@
 use Rattle.std.proofs.Common.{sym, subst}
-use Rattle.live_run.specs.Saying.{SaidFits}
+use Rattle.live_run.specs.Inner.LineFits.{SaidFits}
 use Rattle.live_run.proofs.Fitting.{read_fits}
 use Rattle.live_run.proofs.line_saying.words_say.Goals as goal
 

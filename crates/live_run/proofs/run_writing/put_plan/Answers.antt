@@ -2,7 +2,7 @@ use Rattle.std.proofs.Common.{arith, ◌∷◌, List, refl, sym, ap, ◌∙◌}
 use Rattle.std.proofs.lemmas.Result.{err_from_is_err_and}
 use Rattle.cluster_types.specs.declared.run.RunLine.{RunLine}
 use Rattle.cluster_types.specs.declared.run.RunLine.TheVariants as line
-use Rattle.graph_exec.specs.Telling.{plan_lines}
+use Rattle.graph_exec.specs.WatcherLines.{plan_lines}
 use Rattle.trace_text.specs.RunLines.{lent_line}
 use Rattle.live_run.proofs.Written.{failed_first, put_all, put_failed, put_first, put_more}
 use Rattle.live_run.proofs.run_writing.put_plan.Goals as goal

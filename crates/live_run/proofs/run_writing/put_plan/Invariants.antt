@@ -1,5 +1,5 @@
 use Rattle.std.proofs.Common.{◌≡◌, ◌≤◌, true, length}
-use Rattle.graph_exec.specs.Telling.{plan_lines}
+use Rattle.graph_exec.specs.WatcherLines.{plan_lines}
 use Rattle.live_run.proofs.Written.{IsPut}
 use Rattle.live_run.proofs.run_writing.put_plan.Given as goal
 

@@ -1,5 +1,5 @@
 use Rattle.std.proofs.Common.{◌≡◌, ◌<◌, ◌*◌, ℕ, length, slice_index_or, ◌∙◌}
-use Rattle.edges.specs.Longest.{longest}
+use Rattle.edges.specs.LongestChains.{longest}
 use Rattle.loops.specs.Inner.Edges.{step_edges}
 use Rattle.loops.proofs.FromValid.{valid_order}
 use Rattle.loops.proofs.LinkLoops.{steps_within}

@@ -1,6 +1,7 @@
 use Rattle.std.proofs.Common.{rules, ◌≡◌, ◌<◌, length, get_or}
 use Rattle.cluster_types.specs.declared.node.Node.{Node}
-use Rattle.names.specs.Sets.{borrowed_names, with_name}
+use Rattle.names.specs.Sets.{borrowed_names}
+use Rattle.names.specs.Inner.Sets.{with_name}
 use Rattle.names.proofs.Sets.{one_more}
 use Rattle.names.proofs.name_sets.node_names.Goals as goal
 

@@ -2,7 +2,7 @@ use Rattle.std.proofs.Common.{◌≡◌, ◌<◌, ℕ, List, sym, subst, slice_i
 use Rattle.std.specs.List.Sorted.{IsNonDecreasingBy}
 use Rattle.lemmas.proofs.Results.{on_both}
 use Rattle.edges.specs.declared.edge.Edge.{Edge}
-use Rattle.edges.specs.Longest.{longest}
+use Rattle.edges.specs.LongestChains.{longest}
 use Rattle.edges.specs.Loops.{EndsWithin, HasNoLoop}
 use Rattle.placement.proofs.ChainOrders.{put-in-order}
 use Rattle.placement.proofs.chain_order.put_in_order.Goals as goal

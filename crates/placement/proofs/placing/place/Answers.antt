@@ -6,7 +6,7 @@ use Rattle.cluster_types.specs.Held.{AreTargets}
 use Rattle.cluster_types.specs.Pins.{pin_of}
 use Rattle.cluster_types.specs.Reasons.{HasReason}
 use Rattle.cluster_types.specs.Tables.{Targets, targets_of}
-use Rattle.placement.specs.Inner.Chosen.{AreChosen}
+use Rattle.placement.specs.Inner.ChosenTable.{AreChosen}
 use Rattle.placement.proofs.placing.place.Goals as goal
 
 pub returns : goal.returns

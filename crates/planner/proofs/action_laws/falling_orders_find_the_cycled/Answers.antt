@@ -1,6 +1,6 @@
 use Rattle.std.proofs.Common.{◌≡◌, true}
 use Rattle.cluster_types.proofs.LeastSets.{cycled-least}
-use Rattle.planner.specs.Cycling.{first_marks, with_orders}
+use Rattle.planner.specs.CycledCells.{first_marks, with_orders}
 use Rattle.planner.proofs.FallingOrders.{none_comes_back}
 use Rattle.planner.proofs.MarksClosed.{last_closed}
 use Rattle.planner.proofs.MarksDerived.{first_cycled, orders_cycled}

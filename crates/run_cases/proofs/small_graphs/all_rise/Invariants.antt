@@ -1,6 +1,6 @@
 use Rattle.std.proofs.Common.{◌≡◌, drop}
 use Rattle.std.specs.List.{list_all}
-use Rattle.run_cases.specs.Rising.{rises}
+use Rattle.run_cases.specs.RisingEdges.{rises}
 use Rattle.run_cases.proofs.small_graphs.all_rise.Given as goal
 
 abbrev pub invariant-loop-edge : goal.invariant-loop-edge

@@ -1,6 +1,6 @@
 use Rattle.std.proofs.Common.{rules, ◌≡◌, ◌/◌, ◌&&◌, inl, inr, length, ap, sym, ◌∙◌, arith}
 use Rattle.std.proofs.lemmas.Bool.{cases_eq, cases_lt}
-use Rattle.score.specs.Choice.{is_candidate_node}
+use Rattle.score.specs.Choice.{has_enough}
 use Rattle.score.specs.NodeSet.{has}
 use Rattle.score.proofs.Words.{this_word, other_word, word_and_place, within_set}
 use Rattle.score.proofs.candidate_set.kept.Goals as goal
@@ -32,5 +32,5 @@ returns c = λ n. elim (cases_lt n 256) [
   | inl low ↦ c.loop-place.invariant.below n (omega (arith, low, c.loop-place-test.false))
   | inr high ↦
       let long : length c.args.within.now.words ≡ 4 = search rules in
-      within_set c.loop-place.kept.words c.loop-place.invariant.four n high ∙ sym (ap (λ b. b && is_candidate_node c.args.totals.now n) (within_set c.args.within.now.words long n high))
+      within_set c.loop-place.kept.words c.loop-place.invariant.four n high ∙ sym (ap (λ b. b && has_enough c.args.totals.now n) (within_set c.args.within.now.words long n high))
 ]

@@ -1,5 +1,5 @@
 use Rattle.std.proofs.Common.{◌-◌, ◌≤◌}
-use Rattle.score.specs.Choice.{SaysEnough}
+use Rattle.score.specs.Inner.Choice.{SaysEnough}
 use Rattle.score.proofs.candidate_set.word_by_lanes.Given as goal
 
 abbrev pub invariant-loop-at : goal.invariant-loop-at

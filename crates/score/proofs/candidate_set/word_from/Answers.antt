@@ -1,7 +1,7 @@
 use Rattle.std.proofs.Common.{◌≡◌, ◌+◌, pos, not, ap, sym, ◌∙◌, arith}
 use Rattle.std.specs.Int.{is_negative}
 use Rattle.std.proofs.lemmas.List.{get_or_default}
-use Rattle.score.specs.Choice.{points_at, is_candidate_node}
+use Rattle.score.specs.Choice.{points_at, has_enough}
 use Rattle.score.specs.NodeSet.{is_set}
 use Rattle.score.proofs.Words.{bit_is, more}
 use Rattle.score.proofs.candidate_set.word_from.Goals as goal
@@ -16,4 +16,4 @@ loop-node-preserved c =
     (λ k low.
     let none : k ≡ 0 = omega (arith, low) in
     let same : l.node + k ≡ l.node = omega (arith, none) in
-    ap (is_set c.bit_of.result) none ∙ is.1 ∙ ap (λ t. not (is_negative t)) total ∙ ap (is_candidate_node totals) (sym same)) l.invariant
+    ap (is_set c.bit_of.result) none ∙ is.1 ∙ ap (λ t. not (is_negative t)) total ∙ ap (has_enough totals) (sym same)) l.invariant

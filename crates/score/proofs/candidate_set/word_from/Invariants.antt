@@ -1,4 +1,4 @@
-use Rattle.score.specs.Choice.{SaysEnough}
+use Rattle.score.specs.Inner.Choice.{SaysEnough}
 use Rattle.score.proofs.candidate_set.word_from.Given as goal
 
 abbrev pub invariant-loop-node : goal.invariant-loop-node

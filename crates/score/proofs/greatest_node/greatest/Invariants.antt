@@ -1,5 +1,5 @@
 use Rattle.std.proofs.Common.{◌-◌, ◌≤◌}
-use Rattle.score.specs.Choice.{IsGreatestSoFar}
+use Rattle.score.specs.Inner.Choice.{IsGreatestSoFar}
 use Rattle.score.proofs.greatest_node.greatest.Given as goal
 
 abbrev pub invariant-loop-at : goal.invariant-loop-at

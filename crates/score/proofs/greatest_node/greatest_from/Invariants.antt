@@ -1,4 +1,4 @@
-use Rattle.score.specs.Choice.{IsGreatestSoFar}
+use Rattle.score.specs.Inner.Choice.{IsGreatestSoFar}
 use Rattle.score.proofs.greatest_node.greatest_from.Given as goal
 
 abbrev pub invariant-loop-node : goal.invariant-loop-node

@@ -3,7 +3,7 @@ use Rattle.std.proofs.lemmas.Int.{ints}
 use Rattle.score.proofs.RowFrames.{frame_of, changed_to, sums_fit}
 use Rattle.score.proofs.RowLaws.{row_finite, add_stands}
 use Rattle.score.proofs.Tallies.{length-tallies}
-use Rattle.score.specs.Stored.{tallies}
+use Rattle.score.specs.StoredRows.{tallies}
 use Rattle.score.proofs.row.add_terms.Goals as goal
 
 pub add-requires-clause-nodes : goal.add-requires-clause-nodes

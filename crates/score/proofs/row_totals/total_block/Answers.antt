@@ -1,5 +1,5 @@
 use Rattle.std.proofs.Common.{◌≡◌, ℕ, ◌+◌, ◌-◌, ◌-ℤ◌, pos, get_or, ap, ◌∙◌, arith}
-use Rattle.score.specs.Stored.{bias}
+use Rattle.score.specs.StoredRows.{bias}
 use Rattle.score.proofs.Blocks.{loaded}
 use Rattle.score.proofs.StoredTotals.{stored_total_is}
 use Rattle.score.proofs.row_totals.total_block.Goals as goal

@@ -1,6 +1,6 @@
 use Rattle.std.proofs.Common.{◌≡◌, ℕ, ◌+◌, ◌-ℤ◌, ◌<◌, pos, slice_index}
 use Rattle.score.specs.Choice.{points_at}
-use Rattle.score.specs.Stored.{bias}
+use Rattle.score.specs.StoredRows.{bias}
 use Rattle.score.proofs.row_totals.total_block.Given as goal
 
 abbrev pub invariant-loop-k : goal.invariant-loop-k

@@ -1,6 +1,6 @@
 use Rattle.std.proofs.Common.{◌≡◌, ℕ, get_or, replicate}
 use Rattle.std.proofs.lemmas.Simd.{get_or-replicate}
-use Rattle.score.specs.Stored.{stored_least, stored_most}
+use Rattle.score.specs.Inner.StoredTotals.{stored_least, stored_most}
 use Rattle.score.proofs.StoredTotals.{stored_total_by}
 use Rattle.score.proofs.row_totals.total_lanes.Goals as goal
 

@@ -1,7 +1,7 @@
 use Rattle.std.proofs.Common.{◌≡◌, ℕ, ◌≤◌, get_or, set, ◌∙◌, arith, below_more}
 use Rattle.score.specs.Choice.{points_at}
-use Rattle.score.specs.Row.{tally_total}
-use Rattle.score.specs.Stored.{stored_tally}
+use Rattle.score.specs.Inner.Row.{tally_total}
+use Rattle.score.specs.StoredRows.{stored_tally}
 use Rattle.score.proofs.RowPoints.{points_set_same, points_set_other}
 use Rattle.score.proofs.row_totals.totals_from.Goals as goal
 

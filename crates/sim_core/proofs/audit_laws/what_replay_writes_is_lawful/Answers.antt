@@ -1,6 +1,6 @@
 use Rattle.std.proofs.Common.{◌++◌}
 use Rattle.live_run.specs.Ends.{IsWholeText}
-use Rattle.sim_core.specs.Traced.{results_begin, with_result_section}
+use Rattle.sim_core.specs.TraceSection.{results_begin, with_result_section}
 use Rattle.sim_core.proofs.OneReplay.{carried, same_head}
 use Rattle.sim_core.proofs.ReplayAgain.{is_lawful}
 use Rattle.sim_core.proofs.audit_laws.what_replay_writes_is_lawful.Goals as goal

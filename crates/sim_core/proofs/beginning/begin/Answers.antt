@@ -8,8 +8,8 @@ pub returns-in-Err-clause-stopped : goal.returns-in-Err-clause-stopped
 returns-in-Err-clause-stopped g c =
     stops _ _ _ _ c.in-Err.stop c.requires c.in-Err.ensures.stop c.in-Err.ensures.amid
 
-pub read_start-requires : goal.read_start-requires
-read_start-requires g c =
+pub read_lone_head-requires : goal.read_lone_head-requires
+read_lone_head-requires g c =
     let within = c.in-Ok.ensures.within in
     let room = ap (λ (r : Reading). r.room) c.requires in
     omega (arith, within, room)

@@ -1,6 +1,6 @@
 use Rattle.std.proofs.Common.{rules, ◌≡◌, ℕ, ◌+◌, ◌++◌, ◌∷◌, [], length, length-append, sym, ap, subst, arith}
 use Rattle.cluster_types.specs.Journals.{last_sign}
-use Rattle.simulated.specs.Kept.{HoldsNodes}
+use Rattle.simulated.specs.KeptReality.{ListsNodes}
 use Rattle.simulated.specs.RealWorlds.{standing_by}
 use Rattle.simulated.proofs.Firsts.{nodes-push}
 use Rattle.simulated.proofs.first.first_nodes.Goals as goal
@@ -14,6 +14,6 @@ loop-node-preserved c =
     record {
       len = let e = ap length items in let m = length-append l.nodes.items (x ∷ []) in let i = l.invariant.len in omega arith;
       held = λ es k.
-          subst (λ xs. HoldsNodes (l.node + 1) xs (λ (n : ℕ). standing_by of (last_sign n es))) (sym items)
+          subst (λ xs. ListsNodes (l.node + 1) xs (λ (n : ℕ). standing_by of (last_sign n es))) (sym items)
           (nodes-push l.nodes.items (λ (n : ℕ). standing_by of (last_sign n es)) l.node x l.invariant.len (c.standing_of.ensures es k) (l.invariant.held es k));
     }

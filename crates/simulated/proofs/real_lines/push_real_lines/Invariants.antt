@@ -1,6 +1,6 @@
 use Rattle.std.proofs.Common.{◌≡◌, ◌++◌}
 use Rattle.std.specs.List.{flat_map, range_with_len}
-use Rattle.simulated.specs.Kept.{ShowsWorld}
+use Rattle.simulated.specs.KeptReality.{ShowsWorld}
 use Rattle.simulated.specs.RealWorlds.{World}
 use Rattle.simulated.specs.WorldTexts.{real_row}
 use Rattle.simulated.proofs.real_lines.push_real_lines.Given as goal

@@ -2,7 +2,8 @@ use Rattle.std.proofs.Common.{sym, ap, ◌∙◌, get_or, take}
 use Rattle.std.proofs.lemmas.List.{take_more}
 use Rattle.cluster_types.specs.declared.journal.Event.TheVariants.{Up}
 use Rattle.cluster_types.specs.Failures.{failures_in_force}
-use Rattle.state_unpack.specs.Tally.{tally_of, tally_after}
+use Rattle.state_unpack.specs.Tally.{tally_of}
+use Rattle.state_unpack.specs.Inner.Tally.{tally_after}
 use Rattle.state_unpack.proofs.MoreFailures.{in_force-after}
 use Rattle.state_unpack.proofs.counts.in_force.Goals as goal
 

@@ -3,7 +3,7 @@ use Rattle.std.proofs.lemmas.List.{length-set, ext_get_or}
 use Rattle.std.proofs.lemmas.List.Edits.{fill_by_more}
 use Rattle.std.proofs.lemmas.List.FromFn.{get_or-map-range_with_len, length-map-range_with_len}
 use Rattle.std.specs.List.{range_with_len}
-use Rattle.state_unpack.specs.Facts.{runs_after}
+use Rattle.state_unpack.specs.Inner.Facts.{runs_after}
 use Rattle.state_unpack.proofs.facts.running_after.Goals as goal
 
 pub loop-index-preserved : goal.loop-index-preserved

@@ -1,5 +1,5 @@
 use Rattle.std.proofs.Common.{◌≡◌, ℕ, ◌<◌, false, length, get_or}
-use Rattle.state_unpack.specs.Facts.{runs_after}
+use Rattle.state_unpack.specs.Inner.Facts.{runs_after}
 use Rattle.state_unpack.proofs.facts.running_after.Given as goal
 
 abbrev pub invariant-loop-index : goal.invariant-loop-index

@@ -1,7 +1,7 @@
 use Rattle.std.proofs.Common.{rules, ◌≡◌, true, false, sym, ap, ◌∙◌}
 use Rattle.cluster_types.specs.declared.states.Rights.{Rights}
 use Rattle.cluster_types.specs.Rights.{may_fence}
-use Rattle.state_unpack.specs.Unclean.{unclean_in}
+use Rattle.state_unpack.specs.Inner.Unclean.{unclean_in}
 use Rattle.state_unpack.proofs.Fenced.{fences-none, fences-unclean}
 use Rattle.state_unpack.proofs.fencing.to_fence.Goals as goal
 

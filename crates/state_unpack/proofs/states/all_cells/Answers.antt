@@ -1,6 +1,6 @@
 use Rattle.std.proofs.Common.{rules, ◌≡◌, ◌++◌, sym, ap, ◌∙◌}
 use Rattle.lemmas.proofs.Ranges.{flat_map-more}
-use Rattle.state_unpack.specs.CellsKept.{row_from}
+use Rattle.state_unpack.specs.Inner.CellsKept.{row_from}
 use Rattle.state_unpack.proofs.states.all_cells.Goals as goal
 
 pub loop-leaf-preserved : goal.loop-leaf-preserved

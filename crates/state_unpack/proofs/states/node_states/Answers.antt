@@ -1,6 +1,6 @@
 use Rattle.std.proofs.Common.{rules, ◌≡◌, ◌++◌, ◌∷◌, [], sym, ap, ◌∙◌}
 use Rattle.lemmas.proofs.Ranges.{map-more}
-use Rattle.state_unpack.specs.CellsKept.{node_from}
+use Rattle.state_unpack.specs.Inner.CellsKept.{node_from}
 use Rattle.state_unpack.proofs.states.node_states.Goals as goal
 
 pub loop-node-preserved : goal.loop-node-preserved

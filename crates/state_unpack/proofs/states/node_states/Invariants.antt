@@ -1,6 +1,6 @@
 use Rattle.std.proofs.Common.{◌≡◌, map}
 use Rattle.std.specs.List.{range_with_len}
-use Rattle.state_unpack.specs.CellsKept.{node_from}
+use Rattle.state_unpack.specs.Inner.CellsKept.{node_from}
 use Rattle.state_unpack.proofs.states.node_states.Given as goal
 
 abbrev pub invariant-loop-node : goal.invariant-loop-node

@@ -1,9 +1,9 @@
 use Rattle.std.proofs.Common.{◌≡◌, ◌++◌, map, unwrap_or}
 use Rattle.std.specs.List.{range_with_len}
 use Rattle.cluster_types.specs.NodeStates.{is_online_in}
-use Rattle.state_unpack.specs.CellsKept.{cell_from}
-use Rattle.state_unpack.specs.Facts.{no_facts}
-use Rattle.state_unpack.specs.Kept.{cell_in}
+use Rattle.state_unpack.specs.Inner.CellsKept.{cell_from}
+use Rattle.state_unpack.specs.Inner.Facts.{no_facts}
+use Rattle.state_unpack.specs.KeptCells.{cell_in}
 use Rattle.state_unpack.proofs.states.push_row.Given as goal
 
 abbrev pub invariant-loop-place : goal.invariant-loop-place

@@ -1,6 +1,6 @@
 use Rattle.std.proofs.Common.{rules, ◌≡◌, ◌++◌, ◌∷◌, [], ℕ, sym, ap, ◌∙◌}
 use Rattle.lemmas.proofs.Ranges.{map-more}
-use Rattle.state_unpack.specs.CellsKept.{somewhere, is_stopping}
+use Rattle.state_unpack.specs.Inner.CellsKept.{somewhere, is_stopping}
 use Rattle.state_unpack.proofs.states.stopped_leaves.Goals as goal
 
 pub loop-leaf-preserved : goal.loop-leaf-preserved

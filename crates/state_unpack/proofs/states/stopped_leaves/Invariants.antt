@@ -1,6 +1,6 @@
 use Rattle.std.proofs.Common.{◌≡◌, map}
 use Rattle.std.specs.List.{range_with_len}
-use Rattle.state_unpack.specs.CellsKept.{somewhere, is_stopping}
+use Rattle.state_unpack.specs.Inner.CellsKept.{somewhere, is_stopping}
 use Rattle.state_unpack.proofs.states.stopped_leaves.Given as goal
 
 abbrev pub invariant-loop-leaf : goal.invariant-loop-leaf

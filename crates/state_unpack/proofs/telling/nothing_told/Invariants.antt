@@ -1,5 +1,5 @@
 use Rattle.std.proofs.Common.{◌≡◌, ◌≤◌, ◌-◌, length, replicate}
-use Rattle.state_unpack.specs.Facts.{no_facts}
+use Rattle.state_unpack.specs.Inner.Facts.{no_facts}
 use Rattle.state_unpack.proofs.telling.nothing_told.Given as goal
 
 abbrev pub invariant-loop-cells : goal.invariant-loop-cells

@@ -1,5 +1,5 @@
 use Rattle.std.proofs.Common.{◌<◌, length, ap, ◌∙◌, arith}
-use Rattle.state_unpack.specs.Facts.{facts_after}
+use Rattle.state_unpack.specs.Inner.Facts.{facts_after}
 use Rattle.state_unpack.proofs.Told.{tells-one}
 use Rattle.state_unpack.proofs.telling.tell_cell.Goals as goal
 

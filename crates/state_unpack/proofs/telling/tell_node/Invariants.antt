@@ -1,5 +1,6 @@
 use Rattle.std.proofs.Common.{ℕ, ◌==◌, ◌&&◌, nat_lt}
-use Rattle.state_unpack.specs.Kept.{IsFull, TellsEvent}
+use Rattle.state_unpack.specs.KeptCells.{IsFull}
+use Rattle.state_unpack.specs.Inner.ToldCells.{TellsEvent}
 use Rattle.state_unpack.proofs.telling.tell_node.Given as goal
 
 abbrev pub invariant-loop-leaf : goal.invariant-loop-leaf

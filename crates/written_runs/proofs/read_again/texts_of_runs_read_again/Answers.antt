@@ -2,7 +2,7 @@ use Rattle.std.proofs.Common.{Some, [], ◌∷◌, ◌++◌}
 use Rattle.lemmas.proofs.Members.{all_append}
 use Rattle.cluster_types.specs.declared.run.RunLine.TheVariants as line
 use Rattle.run_safety.proofs.SoFar.{stopped_runs}
-use Rattle.input_reading.specs.Written.{IsLineOf}
+use Rattle.input_reading.specs.PrintedLines.{IsLineOf}
 use Rattle.input_reading.proofs.TextAgain.{text_again}
 use Rattle.written_runs.proofs.WrittenLines.{run_written, told_written}
 use Rattle.written_runs.proofs.read_again.texts_of_runs_read_again.Goals as goal

@@ -3,8 +3,8 @@ use Rattle.std.proofs.lemmas.Bool.{both_ways, false≢true}
 use Rattle.cluster_io.specs.NextLine.{holds_line, IsUndecided}
 use Rattle.cluster_io.specs.Readings.{Reading}
 use Rattle.cluster_io.specs.declared.line_step.LineStep.TheVariants.{Failed}
-use Rattle.cluster_io.specs.Inner.Found.{Finds, FindsLast}
-use Rattle.cluster_io.specs.Inner.Turned.{GivesFound, Settles}
+use Rattle.cluster_io.specs.Inner.FoundLines.{Finds, FindsLast}
+use Rattle.cluster_io.specs.Inner.ReaderTurns.{GivesFound, Settles}
 use Rattle.cluster_io.proofs.Turns.{settles_found, settles_last, same_reading, given_is_no_failure, given_keeps_end}
 use Rattle.cluster_io.proofs.Bearing.{Bears-none}
 use Rattle.cluster_io.proofs.held_lines.HeldLines.turn.Goals as goal

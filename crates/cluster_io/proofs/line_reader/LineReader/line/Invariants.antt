@@ -1,6 +1,6 @@
 use Rattle.std.proofs.Common.{◌≡◌, ◌+◌, ◌-◌, ◌≤◌, true, None, [], length, IfSome}
 use Rattle.cluster_io.specs.NextLine.{holds_line}
-use Rattle.cluster_io.specs.Inner.Turned.{Sofar}
+use Rattle.cluster_io.specs.Inner.ReaderTurns.{Sofar}
 use Rattle.cluster_io.proofs.line_reader.LineReader.line.Given as goal
 
 abbrev pub invariant-loop-step : goal.invariant-loop-step

@@ -1,6 +1,6 @@
 use Rattle.std.proofs.Common.{◌≡◌, drop}
 use Rattle.std.specs.List.{list_any}
-use Rattle.cluster_model.specs.Successive.{pairs_after, successive}
+use Rattle.cluster_model.specs.SuccessivePairs.{pairs_after, successive}
 use Rattle.cluster_model.specs.Inner.Checks.{lacks_in_pair}
 use Rattle.cluster_model.proofs.resolution.checks.some_pair_lacks.Given as goal
 

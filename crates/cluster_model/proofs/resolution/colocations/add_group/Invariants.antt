@@ -1,5 +1,5 @@
 use Rattle.std.proofs.Common.{◌≡◌, drop, map, ◌++◌}
-use Rattle.cluster_model.specs.Successive.{pairs_after, successive}
+use Rattle.cluster_model.specs.SuccessivePairs.{pairs_after, successive}
 use Rattle.cluster_model.specs.Inner.Colocations.{member_colocation}
 use Rattle.cluster_model.proofs.resolution.colocations.add_group.Given as goal
 

@@ -1,5 +1,5 @@
 use Rattle.std.proofs.Common.{◌≡◌, drop, map, ◌++◌}
-use Rattle.cluster_model.specs.Successive.{pairs_after, successive}
+use Rattle.cluster_model.specs.SuccessivePairs.{pairs_after, successive}
 use Rattle.cluster_model.specs.Inner.Orders.{member_order}
 use Rattle.cluster_model.proofs.resolution.orders.add_group.Given as goal
 

@@ -1,5 +1,5 @@
 use Rattle.std.proofs.Common.{◌≡◌, drop}
-use Rattle.cluster_types.specs.Answering.{role_of_interval}
+use Rattle.cluster_types.specs.AnswersThatApply.{role_of_interval}
 use Rattle.cluster_types.proofs.cluster.Cluster.role_of_interval.Given as goal
 
 abbrev pub invariant-loop-monitor : goal.invariant-loop-monitor

@@ -3,8 +3,8 @@ use Rattle.std.proofs.lemmas.List.{get_or_read}
 use Rattle.edges.specs.declared.edge.Edge.{Edge}
 use Rattle.edges.specs.Loops.{EndsWithin}
 use Rattle.edges.specs.declared.side.Side.TheVariants.{Before}
-use Rattle.edges.specs.Rows.{edges_at, no_edge}
-use Rattle.edges.specs.Inner.Rows.{AreRows, edges_below}
+use Rattle.edges.specs.Rows.{edges_at}
+use Rattle.edges.specs.Inner.Rows.{no_edge, AreRows, edges_below}
 use Rattle.edges.proofs.Counted.{end_within}
 use Rattle.edges.proofs.Filled.{is_place, place_within, one_filled, rows_are, rows_stand}
 use Rattle.edges.proofs.rows.Rows.new.Goals as goal

@@ -1,8 +1,8 @@
 use Rattle.std.proofs.Common.{Some, ap, inl, refl, ◌∙◌}
 use Rattle.graph_exec.specs.declared.transition.watcher.Heard.TheVariants as heard
 use Rattle.cluster_types.specs.Steps.{aborts}
-use Rattle.graph_exec.specs.Logs.{JournalOf}
-use Rattle.graph_exec.specs.Running.{Running}
+use Rattle.graph_exec.specs.KnownJournals.{KnownJournalOf}
+use Rattle.graph_exec.specs.Executors.{ExecutorOf}
 use Rattle.graph_exec.proofs.Beginning.{found_so}
 use Rattle.graph_exec.proofs.Closings.{broken, closes_aborted, closes_complete, cut, stops_aborted, stops_complete, stops_either}
 use Rattle.graph_exec.proofs.Lasts.{watcher_then, watcher_told}
@@ -23,13 +23,13 @@ returns-in-Go-clause-at_rest g c =
     leaves_rest _ _ _ _ _ c.in-Complete.ensures.steps c.requires.planned (λ placed is. (c.in-Complete.ensures.well placed is).0) _ c.into_parts-journal.ensures.journal
 
 pub returns-in-Go-clause-graph : goal.returns-in-Go-clause-graph
-returns-in-Go-clause-graph g c = c.into_parts-journal.ensures.graph ∙ ap (λ (r : Running). r.graph) c.in-Complete.ensures.steps.same
+returns-in-Go-clause-graph g c = c.into_parts-journal.ensures.graph ∙ ap (λ (r : ExecutorOf). r.graph) c.in-Complete.ensures.steps.same
 
 pub returns-in-Go-clause-agrees : goal.returns-in-Go-clause-agrees
 returns-in-Go-clause-agrees g c h =
     accords_last (g.S.Outcomes.agrees c.run_watched.new.outcomes) (λ d es k a. g.met.S.Outcomes.anew c.run_watched.new.outcomes d es k a) c.args.executor c.run_watched.new.executor
     (stays_there _ _ _ _ _ c.in-Complete.ensures.steps) (c.run_watched.ensures.agrees (accords_first _ _ c.requires.planned.planned.at_rest.1 c.requires.fresh h)) _
-    (ap (λ (x : JournalOf). x.events) c.into_parts-journal.ensures.journal)
+    (ap (λ (x : KnownJournalOf). x.events) c.into_parts-journal.ensures.journal)
 
 pub returns-in-Stop-clause-ends : goal.returns-in-Stop-clause-ends
 returns-in-Stop-clause-ends g c =
@@ -55,13 +55,13 @@ returns-in-Go-closed-clause-at_rest g c =
     leaves_rest _ _ _ _ _ c.in-Aborted.ensures.steps c.requires.planned c.in-Aborted.ensures.well _ c.into_parts-journal-in-Go-closed.ensures.journal
 
 pub returns-in-Go-closed-clause-graph : goal.returns-in-Go-closed-clause-graph
-returns-in-Go-closed-clause-graph g c = c.into_parts-journal-in-Go-closed.ensures.graph ∙ ap (λ (r : Running). r.graph) c.in-Aborted.ensures.steps.same
+returns-in-Go-closed-clause-graph g c = c.into_parts-journal-in-Go-closed.ensures.graph ∙ ap (λ (r : ExecutorOf). r.graph) c.in-Aborted.ensures.steps.same
 
 pub returns-in-Go-closed-clause-agrees : goal.returns-in-Go-closed-clause-agrees
 returns-in-Go-closed-clause-agrees g c h =
     accords_last (g.S.Outcomes.agrees c.run_watched.new.outcomes) (λ d es k a. g.met.S.Outcomes.anew c.run_watched.new.outcomes d es k a) c.args.executor c.run_watched.new.executor
     (stays_there _ _ _ _ _ c.in-Aborted.ensures.steps) (c.run_watched.ensures.agrees (accords_first _ _ c.requires.planned.planned.at_rest.1 c.requires.fresh h)) _
-    (ap (λ (x : JournalOf). x.events) c.into_parts-journal-in-Go-closed.ensures.journal)
+    (ap (λ (x : KnownJournalOf). x.events) c.into_parts-journal-in-Go-closed.ensures.journal)
 
 pub returns-in-Stop-closed-clause-ends : goal.returns-in-Stop-closed-clause-ends
 returns-in-Stop-closed-clause-ends g c =
@@ -147,13 +147,13 @@ returns-in-Stop-closed-clause-watcher g c =
 pub returns-in-Go-clause-shown : goal.returns-in-Go-clause-shown
 returns-in-Go-clause-shown g c h =
     let all = c.in-Complete.ensures.shown (shown_first (g.V.Watcher.shown c.args.watcher.now heard.Go) c.args.executor c.requires.planned.planned.at_rest.1 c.requires.fresh h) in
-    shown_closed c.args.executor c.run_watched.new.executor c.in-Complete.ensures.steps.same _ (ap (λ (x : JournalOf). x.events) c.into_parts-journal.ensures.journal)
+    shown_closed c.args.executor c.run_watched.new.executor c.in-Complete.ensures.steps.same _ (ap (λ (x : KnownJournalOf). x.events) c.into_parts-journal.ensures.journal)
     (g.V.Watcher.shown c.closed.new.self heard.Go) (c.in-Go.ensures.shown _ _ _ _ all.shown_now)
 
 pub returns-in-Go-closed-clause-shown : goal.returns-in-Go-closed-clause-shown
 returns-in-Go-closed-clause-shown g c h =
     let all = c.in-Aborted.ensures.shown (shown_first (g.V.Watcher.shown c.args.watcher.now heard.Go) c.args.executor c.requires.planned.planned.at_rest.1 c.requires.fresh h) in
-    shown_closed c.args.executor c.run_watched.new.executor c.in-Aborted.ensures.steps.same _ (ap (λ (x : JournalOf). x.events) c.into_parts-journal-in-Go-closed.ensures.journal)
+    shown_closed c.args.executor c.run_watched.new.executor c.in-Aborted.ensures.steps.same _ (ap (λ (x : KnownJournalOf). x.events) c.into_parts-journal-in-Go-closed.ensures.journal)
     (g.V.Watcher.shown c.closed-in-Aborted.new.self heard.Go) (c.in-Go-closed.ensures.shown _ _ _ _ all.shown_now)
 
 pub returns-in-Stop-clause-shown_at_end : goal.returns-in-Stop-clause-shown_at_end

@@ -1,5 +1,5 @@
 use Rattle.std.proofs.Common.{ap}
-use Rattle.graph_exec.specs.Logs.{JournalOf}
+use Rattle.graph_exec.specs.KnownJournals.{KnownJournalOf}
 use Rattle.graph_exec.proofs.Lasts.{source_asked, source_on, source_same}
 use Rattle.graph_exec.proofs.Quiet.{idle_answered, idle_failed, idle_refused, idle_silent}
 use Rattle.graph_exec.proofs.Rests.{agrees_refused, agrees_taken, none_in_flight}
@@ -22,7 +22,7 @@ returns-in-Ok-take-clause-agrees g c h =
     let took = rw c.in-Ok.ensures.ok at c.in-Ok-take.ensures.ok in
     let on = rw c.flight.ensures at (c.in-Answer.ensures.agrees j.cluster j.events 0 h (none_in_flight j.events _ c.requires.resting c.flight.ensures)) in
     agrees_taken (g.S.Outcomes.agrees c.next.new.self) (λ d es k a. g.met.S.Outcomes.anew c.next.new.self d es k a) j.cluster j.events c.in-Answer.answer on took.applies _
-    (ap (λ (x : JournalOf). x.events) took.goes_on)
+    (ap (λ (x : KnownJournalOf). x.events) took.goes_on)
 
 pub returns-in-Ok-take-clause-source : goal.returns-in-Ok-take-clause-source
 returns-in-Ok-take-clause-source g c =

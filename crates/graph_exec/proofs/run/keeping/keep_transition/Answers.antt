@@ -1,7 +1,7 @@
 use Rattle.std.proofs.Common.{ap, inr, length, refl, ◌∙◌}
 use Rattle.graph_exec.specs.declared.transition.ends.End.{End}
-use Rattle.graph_exec.specs.Logs.{JournalOf}
-use Rattle.graph_exec.specs.Inner.Keeping.{passed_end}
+use Rattle.graph_exec.specs.KnownJournals.{KnownJournalOf}
+use Rattle.graph_exec.specs.Inner.KeptTransitions.{passed_end}
 use Rattle.graph_exec.proofs.Lasts.{source_open, source_same, source_then}
 use Rattle.graph_exec.proofs.LastsNext.{source_keeping}
 use Rattle.graph_exec.proofs.KeptTurns.{ends_cut, ends_failed, ends_unanswered_there, goes_on_aborted, goes_on_answered}
@@ -31,7 +31,7 @@ ask_idle-requires g c =
 pub returns-in-Ok-ask_idle-clause-goes_on : goal.returns-in-Ok-ask_idle-clause-goes_on
 returns-in-Ok-ask_idle-clause-goes_on g c es first keeps =
     let made = c.in-Complete.ensures in
-    let ends = c.count-ends_at.ensures ∙ ap (λ (x : JournalOf). length x.events) c.into_known-later.ensures in
+    let ends = c.count-ends_at.ensures ∙ ap (λ (x : KnownJournalOf). length x.events) c.into_known-later.ensures in
     goes_on_answered c.args.journal c.in-Ok.planned c.in-Ok.ensures.ready _ _ es first _ _ _ keeps _ _ _ c.count-begins_at.ensures ends _ c.passed_end.result refl _ c.in-Ok-keep_behind.ensures.ok
     _ made.steps _ made.source.over (λ steady open_still. (made.said steady).to_end open_still tt) (c.passed_end.ensures ∙ ap (λ (x : End). passed_end x) c.in-Complete.is) made.end _
     c.into_known-later.ensures _ _ (λ steady h. c.ask_idle.ensures.source.over (made.source.steady ∙ steady) h) c.in-Ok-ask_idle.taken (rw made.source.whole at c.in-Ok-ask_idle.ensures.answered)
@@ -41,7 +41,7 @@ returns-in-Ok-ask_idle-clause-agrees g c h =
     let made = c.in-Complete.ensures in
     let there = agrees_behind c.args.journal c.in-Ok.planned c.in-Ok.ensures.ready _ _ _ _ made.steps (g.S.Outcomes.agrees c.args.outcomes.now)
     (g.S.Outcomes.agrees c.run_transition-end.new.outcomes) (λ d es k a. g.met.S.Outcomes.anew c.run_transition-end.new.outcomes d es k a) made.agrees h _
-    (ap (λ (x : JournalOf). x.events) c.into_known-later.ensures) in
+    (ap (λ (x : KnownJournalOf). x.events) c.into_known-later.ensures) in
     let same = later_cluster c.args.journal c.in-Ok.planned c.in-Ok.ensures.ready _ _ _ _ made.steps _ c.into_known-later.ensures in
     rw same at (c.in-Ok-ask_idle.ensures.agrees (rw same there))
 
@@ -56,7 +56,7 @@ returns-in-Err-clause-source g c =
 pub returns-in-Err-clause-ends : goal.returns-in-Err-clause-ends
 returns-in-Err-clause-ends g c es first keeps =
     let made = c.in-Complete.ensures in
-    let ends = c.count-ends_at.ensures ∙ ap (λ (x : JournalOf). length x.events) c.into_known-later.ensures in
+    let ends = c.count-ends_at.ensures ∙ ap (λ (x : KnownJournalOf). length x.events) c.into_known-later.ensures in
     ends_unanswered_there c.args.journal c.in-Ok.planned c.in-Ok.ensures.ready _ _ es first _ _ _ keeps _ _ _ c.count-begins_at.ensures ends _ c.passed_end.result refl _
     c.in-Ok-keep_behind.ensures.ok _ made.steps _ made.source.over (λ steady open_still. (made.said steady).to_end open_still tt)
     (c.passed_end.ensures ∙ ap (λ (x : End). passed_end x) c.in-Complete.is) made.end _ c.into_known-later.ensures _ c.in-Err.ended (rw made.source.whole at c.in-Err.ensures.unanswered)
@@ -66,7 +66,7 @@ returns-in-Err-clause-agrees_at_end g c h =
     let made = c.in-Complete.ensures in
     let there = agrees_behind c.args.journal c.in-Ok.planned c.in-Ok.ensures.ready _ _ _ _ made.steps (g.S.Outcomes.agrees c.args.outcomes.now)
     (g.S.Outcomes.agrees c.run_transition-end.new.outcomes) (λ d es k a. g.met.S.Outcomes.anew c.run_transition-end.new.outcomes d es k a) made.agrees h _
-    (ap (λ (x : JournalOf). x.events) c.into_known-later.ensures) in
+    (ap (λ (x : KnownJournalOf). x.events) c.into_known-later.ensures) in
     let same = later_cluster c.args.journal c.in-Ok.planned c.in-Ok.ensures.ready _ _ _ _ made.steps _ c.into_known-later.ensures in
     rw same at (c.in-Err.ensures.agrees_at_end (rw same there))
 
@@ -75,7 +75,7 @@ returns-in-Err-clause-fitting g c careful h =
     let made = c.in-Complete.ensures in
     let there = agrees_behind c.args.journal c.in-Ok.planned c.in-Ok.ensures.ready _ _ _ _ made.steps (g.S.Outcomes.agrees c.args.outcomes.now)
     (g.S.Outcomes.agrees c.run_transition-end.new.outcomes) (λ d es k a. g.met.S.Outcomes.anew c.run_transition-end.new.outcomes d es k a) made.agrees h _
-    (ap (λ (x : JournalOf). x.events) c.into_known-later.ensures) in
+    (ap (λ (x : KnownJournalOf). x.events) c.into_known-later.ensures) in
     let same = later_cluster c.args.journal c.in-Ok.planned c.in-Ok.ensures.ready _ _ _ _ made.steps _ c.into_known-later.ensures in
     c.in-Err.ensures.fitting (made.source.careful ∙ careful) (rw same there)
 
@@ -84,7 +84,7 @@ returns-in-Err-clause-fitting g c careful h =
 pub returns-in-Aborted-clause-goes_on : goal.returns-in-Aborted-clause-goes_on
 returns-in-Aborted-clause-goes_on g c es first keeps =
     let made = c.in-Aborted.ensures in
-    let ends = c.count-ends_at.ensures ∙ ap (λ (x : JournalOf). length x.events) c.into_known-later.ensures in
+    let ends = c.count-ends_at.ensures ∙ ap (λ (x : KnownJournalOf). length x.events) c.into_known-later.ensures in
     goes_on_aborted c.args.journal c.in-Ok.planned c.in-Ok.ensures.ready _ _ es first _ _ _ keeps _ _ _ c.count-begins_at.ensures ends _ c.passed_end.result refl _ c.in-Ok-keep_behind.ensures.ok
     _ made.steps _ made.source.over (λ steady open_still. (made.said steady).to_end open_still tt) _ (c.passed_end.ensures ∙ ap (λ (x : End). passed_end x) c.in-Aborted.is) made.end _
     c.into_known-later.ensures
@@ -94,14 +94,14 @@ returns-in-Aborted-clause-agrees g c h =
     let made = c.in-Aborted.ensures in
     agrees_behind c.args.journal c.in-Ok.planned c.in-Ok.ensures.ready _ _ _ _ made.steps (g.S.Outcomes.agrees c.args.outcomes.now)
     (g.S.Outcomes.agrees c.run_transition-end.new.outcomes) (λ d es k a. g.met.S.Outcomes.anew c.run_transition-end.new.outcomes d es k a) made.agrees h _
-    (ap (λ (x : JournalOf). x.events) c.into_known-later.ensures)
+    (ap (λ (x : KnownJournalOf). x.events) c.into_known-later.ensures)
 
 -- an answer came that doesn't apply
 
 pub returns-in-Unexpected-clause-ends : goal.returns-in-Unexpected-clause-ends
 returns-in-Unexpected-clause-ends g c es first keeps =
     let made = c.in-Unexpected.ensures in
-    let ends = c.count-ends_at.ensures ∙ ap (λ (x : JournalOf). length x.events) c.into_known-later.ensures in
+    let ends = c.count-ends_at.ensures ∙ ap (λ (x : KnownJournalOf). length x.events) c.into_known-later.ensures in
     ends_cut c.args.journal c.in-Ok.planned c.in-Ok.ensures.ready _ _ es first _ _ _ keeps _ _ _ c.count-begins_at.ensures ends _ c.passed_end.result refl _ c.in-Ok-keep_behind.ensures.ok
     _ c.in-Unexpected.answer made.steps (c.passed_end.ensures ∙ ap (λ (x : End). passed_end x) c.in-Unexpected.is) made.end _ (rw c.into_known-later.ensures at c.into_journal.ensures)
 
@@ -117,7 +117,7 @@ returns-in-Unexpected-clause-agrees_at_end g c h =
 pub returns-in-SourceFault-clause-ends : goal.returns-in-SourceFault-clause-ends
 returns-in-SourceFault-clause-ends g c es first keeps =
     let made = c.in-SourceFault.ensures in
-    let ends = c.count-ends_at.ensures ∙ ap (λ (x : JournalOf). length x.events) c.into_known-later.ensures in
+    let ends = c.count-ends_at.ensures ∙ ap (λ (x : KnownJournalOf). length x.events) c.into_known-later.ensures in
     ends_failed c.args.journal c.in-Ok.planned c.in-Ok.ensures.ready _ _ es first _ _ _ keeps _ _ _ c.count-begins_at.ensures ends _ c.passed_end.result refl _ c.in-Ok-keep_behind.ensures.ok
     _ made.steps (c.passed_end.ensures ∙ ap (λ (x : End). passed_end x) c.in-SourceFault.is) made.end (λ steady. (made.said steady).failed refl) (λ steady. (made.said steady).not_over refl) _
     (rw c.into_known-later.ensures at c.into_journal-in-SourceFault.ensures)

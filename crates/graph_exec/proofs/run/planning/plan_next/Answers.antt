@@ -1,5 +1,5 @@
 use Rattle.std.proofs.Common.{ap}
-use Rattle.graph_exec.specs.Running.{Running}
+use Rattle.graph_exec.specs.Executors.{ExecutorOf}
 use Rattle.graph_exec.proofs.Ready.{is_ready}
 use Rattle.graph_exec.proofs.Served.{serves_again}
 use Rattle.graph_exec.proofs.run.planning.plan_next.Goals as goal
@@ -12,4 +12,4 @@ returns-clause-ready c =
 
 pub returns-clause-serves : goal.returns-clause-serves
 returns-clause-serves c =
-    serves_again _ c.in_ok-plan.plan _ (ap (λ (r : Running). r.graph) c.in_ok-executor.ensures) c.in_ok-plan.ensures.serves
+    serves_again _ c.in_ok-plan.plan _ (ap (λ (r : ExecutorOf). r.graph) c.in_ok-executor.ensures) c.in_ok-plan.ensures.serves

@@ -1,7 +1,7 @@
 use Rattle.std.proofs.Common.{arith, Some, ap, refl, sym, ◌∙◌}
 use Rattle.lemmas.proofs.Booleans.{fails_too}
 use Rattle.graph_exec.specs.declared.transition.watcher.Heard.TheVariants as heard
-use Rattle.graph_exec.specs.Watching.{IsShownAll}
+use Rattle.graph_exec.specs.WatchedTransitions.{IsShownAll}
 use Rattle.graph_exec.proofs.Aborting.{aborted_on, aborted_then, none_aborted}
 use Rattle.graph_exec.proofs.Carrying.{expected_done, gone_done, gone_further, has_ended_now, went_nowhere, went_on}
 use Rattle.graph_exec.proofs.Lasts.{source_done, source_same, source_then, watcher_done, watcher_same, watcher_then}

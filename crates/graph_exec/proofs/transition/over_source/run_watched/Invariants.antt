@@ -1,11 +1,11 @@
 use Rattle.std.proofs.Common.{true, false, ◌≡◌, ◌≤◌, ◌+◌}
 use Rattle.graph_exec.specs.declared.transition.watcher.Heard.TheVariants as heard
 use Rattle.graph_exec.specs.Counts.{IsAbortAnswered}
-use Rattle.graph_exec.specs.Lasting.{SourceLasts, WatcherLasts, none_failed}
+use Rattle.graph_exec.specs.LastWords.{SourceLasts, WatcherLasts, none_failed}
 use Rattle.graph_exec.specs.Inner.Rounds.{asks_left}
-use Rattle.graph_exec.specs.Running.{Went}
+use Rattle.graph_exec.specs.Executors.{Went}
 use Rattle.graph_exec.specs.Transitions.{Accords, WentAsSaid}
-use Rattle.graph_exec.specs.Watching.{AreLinesTold, IsShownAll}
+use Rattle.graph_exec.specs.WatchedTransitions.{AreLinesTold, IsShownAll}
 use Rattle.graph_exec.proofs.transition.over_source.run_watched.Given as goal
 
 abbrev pub invariant-loop-executor : goal.invariant-loop-executor

@@ -2,7 +2,7 @@ use Rattle.std.proofs.Common.{arith, ◌≡◌, drop, [], Ok, sym, subst, ap, �
 use Rattle.std.specs.Prelude.{IfOk}
 use Rattle.std.proofs.lemmas.List.{drop_all}
 use Rattle.input_reading.specs.RunReading.{read_run_lines, with_run_lines}
-use Rattle.input_reading.specs.Written.{AreNamed}
+use Rattle.input_reading.specs.PrintedLines.{AreNamed}
 use Rattle.input_reading.proofs.NamedLines.{read_named}
 use Rattle.input_reading.proofs.run.run_reading.run_lines.Goals as goal
 

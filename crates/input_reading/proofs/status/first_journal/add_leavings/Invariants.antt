@@ -1,6 +1,6 @@
 use Rattle.std.proofs.Common.{◌++◌}
 use Rattle.input_reading.proofs.Leaving.{Left}
-use Rattle.input_reading.specs.FirstJournal.{leavings}
+use Rattle.input_reading.specs.Inner.FirstJournal.{leavings}
 use Rattle.input_reading.proofs.status.first_journal.add_leavings.Given as goal
 
 abbrev pub invariant-loop-node : goal.invariant-loop-node

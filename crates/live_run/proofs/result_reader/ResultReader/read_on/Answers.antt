@@ -1,6 +1,6 @@
 use Rattle.std.proofs.Common.{arith, Some, None, refl, ap, sym, subst, ◌∙◌}
-use Rattle.live_run.specs.AtHand.{HoldsResultLine}
-use Rattle.live_run.specs.Coming.{Lines}
+use Rattle.live_run.specs.AnswersAtHand.{HoldsResultLine}
+use Rattle.live_run.specs.AnswersToCome.{Lines}
 use Rattle.live_run.specs.ResultReaders.{reader_lines, source_in}
 use Rattle.live_run.specs.Inner.ReadLaws.{passed_nothing, until_then}
 use Rattle.live_run.proofs.Bringing.{none_brings}

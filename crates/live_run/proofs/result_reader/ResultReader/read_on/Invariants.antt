@@ -1,6 +1,6 @@
 use Rattle.std.proofs.Common.{◌≡◌, ◌≤◌, true, None}
-use Rattle.live_run.specs.AtHand.{HoldsResultLine}
-use Rattle.live_run.specs.Coming.{AreReady}
+use Rattle.live_run.specs.AnswersAtHand.{HoldsResultLine}
+use Rattle.live_run.specs.AnswersToCome.{AreReady}
 use Rattle.live_run.specs.Inner.ComingSteps.{told_coming}
 use Rattle.live_run.specs.Inner.ReadSteps.{HasPassed}
 use Rattle.live_run.specs.ResultReaders.{reader_lines, loan_in, source_in}

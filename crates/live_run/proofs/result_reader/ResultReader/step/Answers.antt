@@ -2,7 +2,7 @@ use Rattle.std.proofs.Common.{◌≡◌, ℕ, Some, arith}
 use Rattle.cluster_io.proofs.Bearing.{Bears-as}
 use Rattle.cluster_io.specs.LineReaders.{reading_of}
 use Rattle.live_run.specs.Inner.ComingSteps.{said_came}
-use Rattle.live_run.specs.Saying.{line_says}
+use Rattle.live_run.specs.LineSays.{line_says}
 use Rattle.live_run.specs.declared.line_result.Came.TheVariants as came
 use Rattle.live_run.specs.declared.line_meaning.Said.{Said}
 use Rattle.live_run.specs.declared.line_meaning.Said.TheVariants as said

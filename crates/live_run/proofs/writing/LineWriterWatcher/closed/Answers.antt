@@ -1,5 +1,5 @@
 use Rattle.std.proofs.Common.{rules, refl, sym, ◌∙◌}
-use Rattle.graph_exec.specs.Telling.{closing_line}
+use Rattle.graph_exec.specs.WatcherLines.{closing_line}
 use Rattle.live_run.proofs.Written.{failed_one}
 use Rattle.live_run.proofs.writing.LineWriterWatcher.closed.Goals as goal
 

@@ -2,9 +2,9 @@ use Rattle.std.proofs.Common.{rules, ◌≡◌, ℕ, ℤ, List, length, map, sym
 use Rattle.std.specs.List.{range_with_len}
 use Rattle.std.proofs.lemmas.List.FromFn.{length-map-range_with_len}
 use Rattle.cluster_types.specs.Tables.{targets_of}
-use Rattle.cluster_types.specs.Unpacked.{states_of}
+use Rattle.cluster_types.specs.UnpackedStates.{states_of}
 use Rattle.placement.specs.Inner.Picks.{ArePicked}
-use Rattle.placement.specs.Reads.{cap_in, is_candidate_in, total_in}
+use Rattle.placement.specs.Inner.Reads.{cap_in, is_candidate_in, total_in}
 use Rattle.placement.proofs.ChosenOfJournal.{candidate-is, chooses, on_each, totals-are}
 use Rattle.placement.proofs.LoadsAfter.{loads-fit}
 use Rattle.placement.proofs.ReadOfStates.{cap-is}

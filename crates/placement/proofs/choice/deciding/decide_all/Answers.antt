@@ -2,7 +2,7 @@ use Rattle.std.proofs.Common.{length, sym, ap, subst, ◌∙◌, arith}
 use Rattle.cluster_types.specs.Choice.{after_decisions}
 use Rattle.cluster_types.specs.Plans.{with_totals}
 use Rattle.cluster_types.specs.Tables.{targets_of}
-use Rattle.cluster_types.specs.Unpacked.{states_of}
+use Rattle.cluster_types.specs.UnpackedStates.{states_of}
 use Rattle.placement.specs.Scores.{scores_of}
 use Rattle.placement.specs.Loads.{IsLoaded}
 use Rattle.placement.specs.Steps.{Tell}

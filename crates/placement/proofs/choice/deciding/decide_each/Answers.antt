@@ -3,7 +3,7 @@ use Rattle.std.proofs.lemmas.List.{take_all}
 use Rattle.std.proofs.lemmas.List.Elements.{Contains-get_or}
 use Rattle.cluster_types.specs.declared.placement.Decision.TheVariants.{Place}
 use Rattle.cluster_types.specs.Tables.{targets_of}
-use Rattle.placement.specs.Steps.{AreMade}
+use Rattle.placement.specs.Inner.Steps.{AreMade}
 use Rattle.placement.proofs.MadeMore.{made-more}
 use Rattle.placement.proofs.choice.deciding.decide_each.Goals as goal
 

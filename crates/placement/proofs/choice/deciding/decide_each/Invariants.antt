@@ -3,7 +3,8 @@ use Rattle.cluster_types.specs.declared.journal.Event.{Event}
 use Rattle.cluster_types.specs.declared.journal.Promotion.{Promotion}
 use Rattle.cluster_types.specs.Tables.{targets_of}
 use Rattle.placement.specs.Loads.{IsLoaded}
-use Rattle.placement.specs.Steps.{AreMade, Tell}
+use Rattle.placement.specs.Steps.{Tell}
+use Rattle.placement.specs.Inner.Steps.{AreMade}
 use Rattle.placement.proofs.choice.deciding.decide_each.Given as goal
 
 abbrev pub invariant-loop-decision : goal.invariant-loop-decision

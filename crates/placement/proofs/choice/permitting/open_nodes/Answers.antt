@@ -4,8 +4,9 @@ use Rattle.cluster_types.specs.Choice.{is_placed_for}
 use Rattle.cluster_types.specs.Tables.{targets_of}
 use Rattle.score.specs.NodeSet.{has}
 use Rattle.score.proofs.NodeSets.{as_test}
-use Rattle.placement.specs.Usable.{is_usable_by}
-use Rattle.placement.specs.Reads.{is_kept_in, is_open_in, may_stay_in}
+use Rattle.placement.specs.UsableNodes.{is_usable_by}
+use Rattle.placement.specs.Reads.{is_kept_in, may_stay_in}
+use Rattle.placement.specs.Inner.Reads.{is_open_in}
 use Rattle.placement.proofs.choice.permitting.open_nodes.Goals as goal
 
 pub of-requires-clause-passes : goal.of-requires-clause-passes

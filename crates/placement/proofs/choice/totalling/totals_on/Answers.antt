@@ -6,7 +6,7 @@ use Rattle.score.specs.Total.{total_of}
 use Rattle.cluster_types.specs.Choice.{preference}
 use Rattle.cluster_types.specs.Tables.{targets_of}
 use Rattle.placement.specs.Scores.{score_in}
-use Rattle.placement.specs.Reads.{total_in}
+use Rattle.placement.specs.Inner.Reads.{total_in}
 use Rattle.placement.proofs.choice.totalling.totals_on.Goals as goal
 
 pub overflow_cast-node : goal.overflow_cast-node

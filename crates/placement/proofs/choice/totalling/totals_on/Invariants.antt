@@ -1,7 +1,7 @@
 use Rattle.std.proofs.Common.{◌≡◌, ◌≤◌, length, map, vec_capacity}
 use Rattle.std.specs.List.{range_with_len}
 use Rattle.cluster_types.specs.Tables.{targets_of}
-use Rattle.placement.specs.Reads.{total_in}
+use Rattle.placement.specs.Inner.Reads.{total_in}
 use Rattle.placement.proofs.choice.totalling.totals_on.Given as goal
 
 abbrev pub invariant-loop-node : goal.invariant-loop-node

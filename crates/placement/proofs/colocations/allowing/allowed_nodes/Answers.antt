@@ -5,7 +5,7 @@ use Rattle.std.proofs.lemmas.List.{take_all}
 use Rattle.lemmas.proofs.Booleans.{sooner}
 use Rattle.cluster_types.specs.Tables.{targets_of}
 use Rattle.score.specs.NodeSet.{has}
-use Rattle.placement.specs.Inner.Allowed.{allows}
+use Rattle.placement.specs.Inner.AllowedNodes.{allows}
 use Rattle.placement.proofs.AllowedBy.{allowed-by-both, allowed-more}
 use Rattle.placement.proofs.colocations.allowing.allowed_nodes.Goals as goal
 

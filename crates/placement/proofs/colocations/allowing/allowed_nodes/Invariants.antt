@@ -2,7 +2,7 @@ use Rattle.std.proofs.Common.{◌≡◌, ℕ, ◌&&◌, take}
 use Rattle.std.specs.List.{list_all}
 use Rattle.cluster_types.specs.Tables.{targets_of}
 use Rattle.score.specs.NodeSet.{has}
-use Rattle.placement.specs.Inner.Allowed.{allows}
+use Rattle.placement.specs.Inner.AllowedNodes.{allows}
 use Rattle.placement.proofs.colocations.allowing.allowed_nodes.Given as goal
 
 abbrev pub invariant-loop-rule : goal.invariant-loop-rule

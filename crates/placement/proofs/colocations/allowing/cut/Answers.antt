@@ -3,7 +3,7 @@ use Rattle.std.proofs.Math.Bool.{and-true}
 use Rattle.cluster_types.specs.Tables.{targets_of}
 use Rattle.score.specs.NodeSet.{has}
 use Rattle.score.proofs.NodeSets.{as_test, outside}
-use Rattle.placement.specs.Inner.Allowed.{allows}
+use Rattle.placement.specs.Inner.AllowedNodes.{allows}
 use Rattle.placement.proofs.AllowedBy.{free-allows}
 use Rattle.placement.proofs.colocations.allowing.cut.Goals as goal
 

@@ -3,7 +3,7 @@ use Rattle.std.proofs.lemmas.List.{take_all}
 use Rattle.cluster_types.specs.Tables.{targets_of}
 use Rattle.placement.specs.Rows.{IsRow}
 use Rattle.placement.proofs.TermRows.{row-length, row-room, row-same}
-use Rattle.placement.specs.Inner.Counted.{counted_scores}
+use Rattle.placement.specs.Inner.CountedScores.{counted_scores}
 use Rattle.placement.proofs.RowTerms.{counted-more, few-counted}
 use Rattle.placement.proofs.colocations.preferring.preference_row.Goals as goal
 

@@ -1,7 +1,7 @@
 use Rattle.std.proofs.Common.{take}
 use Rattle.cluster_types.specs.Tables.{targets_of}
 use Rattle.placement.specs.Rows.{IsRow}
-use Rattle.placement.specs.Inner.Counted.{counted_scores}
+use Rattle.placement.specs.Inner.CountedScores.{counted_scores}
 use Rattle.placement.proofs.colocations.preferring.preference_row.Given as goal
 
 abbrev pub invariant-loop-rule : goal.invariant-loop-rule

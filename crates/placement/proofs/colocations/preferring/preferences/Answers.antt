@@ -4,7 +4,7 @@ use Rattle.cluster_types.specs.Choice.{preference}
 use Rattle.cluster_types.specs.Tables.{targets_of}
 use Rattle.placement.specs.Rows.{IsRow}
 use Rattle.placement.proofs.TermRows.{row-length}
-use Rattle.placement.specs.Inner.Counted.{counted_scores}
+use Rattle.placement.specs.Inner.CountedScores.{counted_scores}
 use Rattle.placement.proofs.colocations.preferring.preferences.Goals as goal
 
 pub totals_of-requires : goal.totals_of-requires

@@ -3,7 +3,7 @@ use Rattle.std.proofs.lemmas.List.{get_or_read, map-append, take_all, take_more}
 use Rattle.std.proofs.lemmas.List.Elements.{Contains-get_or}
 use Rattle.cluster_types.specs.declared.placement.Decision.TheVariants.{Place}
 use Rattle.cluster_types.specs.Decisions.{Key}
-use Rattle.placement.specs.Inner.Effective.{effective_in}
+use Rattle.placement.specs.Inner.EffectiveKeys.{effective_in}
 use Rattle.placement.specs.Inner.Lending.{AreKeys, slot_key_at, keys_among}
 use Rattle.placement.proofs.ReadyFlags.{among-is}
 use Rattle.placement.proofs.SlotLaws.{kept-is}

@@ -1,7 +1,7 @@
 use Rattle.std.proofs.Common.{◌≡◌, map, take}
 use Rattle.cluster_types.specs.declared.placement.Decision.{Decision}
 use Rattle.cluster_types.specs.Decisions.{Key}
-use Rattle.placement.specs.Inner.Effective.{effective_in}
+use Rattle.placement.specs.Inner.EffectiveKeys.{effective_in}
 use Rattle.placement.proofs.order.effective.effective_keys.Given as goal
 
 abbrev pub invariant-loop-position : goal.invariant-loop-position

@@ -5,7 +5,7 @@ use Rattle.cluster_types.specs.Decisions.{greatest_of}
 use Rattle.cluster_types.specs.Fields.{priority}
 use Rattle.score.specs.NodeSet.{has}
 use Rattle.placement.specs.Scores.{score_in}
-use Rattle.placement.specs.Usable.{is_usable_by}
+use Rattle.placement.specs.UsableNodes.{is_usable_by}
 use Rattle.placement.specs.Inner.DecisionLists.{is_active_by_cell}
 use Rattle.placement.proofs.order.keys.key_of.Goals as goal
 

@@ -3,7 +3,7 @@ use Rattle.std.proofs.lemmas.Result.{IfOk-weaker}
 use Rattle.cluster_types.specs.declared.cluster.Cluster.{Cluster}
 use Rattle.cluster_types.specs.declared.placement.Decision.{Decision}
 use Rattle.placement.specs.Inner.DecisionLists.{decisions_in, compared_key}
-use Rattle.placement.specs.Inner.Effective.{effective_in}
+use Rattle.placement.specs.Inner.EffectiveKeys.{effective_in}
 use Rattle.placement.specs.Inner.Turns.{AreInOrder}
 use Rattle.placement.proofs.order.making.order_by.Goals as goal
 

@@ -5,7 +5,7 @@ use Rattle.lemmas.proofs.Members.{of_map}
 use Rattle.edges.specs.declared.edge.Edge.{Edge}
 use Rattle.edges.specs.Loops.{EndsWithin}
 use Rattle.placement.specs.declared.order.queue.Queue.{Queue}
-use Rattle.placement.specs.declared.order.ranked.Ranked.{Ranked}
+use Rattle.placement.specs.declared.order.ranked_decisions.Ranked.{Ranked}
 use Rattle.placement.specs.Inner.Flags.{slot_of}
 use Rattle.placement.specs.Inner.Links.{links_in}
 use Rattle.placement.specs.Inner.Queueing.{IsQueue, has_place}

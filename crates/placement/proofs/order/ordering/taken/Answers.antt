@@ -1,7 +1,7 @@
 use Rattle.std.proofs.Common.{rules, arith, ◌≡◌, ◌<◌, ◌*◌, ◌++◌, ◌∷◌, [], ◌&&◌, ◌||◌, ℕ, List, MatchOption, Option, true, false, not, count_by, get_or, length, slice_index_or, slice_set, Contains, refl, sym, ap, subst, ◌∙◌}
 use Rattle.cluster_types.specs.declared.placement.Decision.{Decision}
 use Rattle.cluster_types.specs.Decisions.{is_among, is_same_decision, leaf_of}
-use Rattle.placement.specs.declared.order.ranked.Ranked.{Ranked}
+use Rattle.placement.specs.declared.order.ranked_decisions.Ranked.{Ranked}
 use Rattle.placement.specs.Inner.Flags.{AreFlags, slot_of}
 use Rattle.placement.specs.Inner.Links.{links_in}
 use Rattle.placement.specs.Inner.Queueing.{IsFirstPlace, IsNextPlace, has_place}

@@ -1,7 +1,7 @@
 use Rattle.std.proofs.Common.{◌≡◌, ◌&&◌, not, ap, ◌∙◌, map}
 use Rattle.std.specs.Int.{is_negative}
 use Rattle.std.specs.List.{range_with_len}
-use Rattle.score.specs.Choice.{is_candidate_node}
+use Rattle.score.specs.Choice.{has_enough}
 use Rattle.score.specs.NodeSet.{has}
 use Rattle.lemmas.proofs.Ranges.{any-same}
 use Rattle.score.specs.Total.{total_of}
@@ -14,4 +14,4 @@ returns c = λ terms is.
     let made : c.deref.result.now ≡ map (λ n. total_of (terms n)) (range_with_len 0 c.args.nodes) = c.deref.ensures.value ∙ c.in_ok-totals.ensures.totals terms is in
     c.has_any.ensures
     ∙ any-same (has c.candidates-set.result) (λ n. usable n && not (is_negative (total_of (terms n)))) c.args.nodes
-    (λ n low. c.candidates-set.ensures n ∙ (ap (λ ts. usable n && is_candidate_node ts n) made ∙ ap (λ b. usable n && b) (candidate-is c.args.nodes terms n low)))
+    (λ n low. c.candidates-set.ensures n ∙ (ap (λ ts. usable n && has_enough ts n) made ∙ ap (λ b. usable n && b) (candidate-is c.args.nodes terms n low)))

@@ -2,7 +2,8 @@ use Rattle.std.proofs.Common.{rules, ◌≡◌, ◌∷◌, [], true, false, leng
 use Rattle.std.proofs.lemmas.List.FromFn.{get_or-map-range_with_len}
 use Rattle.cluster_types.specs.Terms.{is_tied}
 use Rattle.placement.specs.Inner.LendingRows.{joined_below, with_lender_by}
-use Rattle.placement.specs.OwnRows.{terms_by, own_by}
+use Rattle.placement.specs.OwnRows.{own_by}
+use Rattle.placement.specs.Inner.OwnRows.{terms_by}
 use Rattle.placement.specs.Rows.{IsRow}
 use Rattle.placement.proofs.Lenders.{lend-more, lend-skip}
 use Rattle.placement.proofs.OwnTerms.{few-own, small-own}

@@ -1,6 +1,6 @@
 use Rattle.std.proofs.Common.{length}
 use Rattle.placement.specs.Inner.LendingRows.{joined_below}
-use Rattle.placement.specs.OwnRows.{terms_by}
+use Rattle.placement.specs.Inner.OwnRows.{terms_by}
 use Rattle.placement.specs.Rows.{IsRow}
 use Rattle.placement.proofs.totals.lending_rows.joined_row.Given as goal
 

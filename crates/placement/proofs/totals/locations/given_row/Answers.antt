@@ -3,7 +3,8 @@ use Rattle.std.proofs.lemmas.List.{take_all}
 use Rattle.std.proofs.lemmas.List.Sums.{count_by-le-length}
 use Rattle.cluster_types.specs.declared.rules.Location.{Location}
 use Rattle.cluster_types.specs.declared.rules.RuleLocation.{RuleLocation}
-use Rattle.placement.specs.Locations.{located, scores_given, is_role}
+use Rattle.placement.specs.Locations.{located, scores_given}
+use Rattle.placement.specs.Inner.Locations.{is_role}
 use Rattle.placement.specs.Rows.{IsRow}
 use Rattle.placement.proofs.Given.{given-more, few-given, taken}
 use Rattle.placement.proofs.TermRows.{row-same, row-room, row-length}

@@ -1,5 +1,6 @@
 use Rattle.std.proofs.Common.{length, take}
-use Rattle.placement.specs.Locations.{scores_given, is_role}
+use Rattle.placement.specs.Locations.{scores_given}
+use Rattle.placement.specs.Inner.Locations.{is_role}
 use Rattle.placement.specs.Rows.{IsRow}
 use Rattle.placement.proofs.totals.locations.given_row.Given as goal
 

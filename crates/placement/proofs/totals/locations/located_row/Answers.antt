@@ -3,7 +3,8 @@ use Rattle.std.specs.List.{Contains}
 use Rattle.std.proofs.lemmas.List.{take_all}
 use Rattle.std.proofs.lemmas.List.Elements.{Contains-get_or}
 use Rattle.cluster_types.specs.declared.rules.Location.{Location}
-use Rattle.placement.specs.Locations.{located, is_role}
+use Rattle.placement.specs.Locations.{located}
+use Rattle.placement.specs.Inner.Locations.{is_role}
 use Rattle.placement.specs.Rows.{IsRow}
 use Rattle.placement.proofs.Given.{zero-row, located-more, few-located, taken}
 use Rattle.placement.proofs.TermRows.{row-same, row-room, row-length}

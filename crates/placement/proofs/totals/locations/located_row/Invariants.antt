@@ -1,5 +1,6 @@
 use Rattle.std.proofs.Common.{length, take}
-use Rattle.placement.specs.Locations.{located, is_role}
+use Rattle.placement.specs.Locations.{located}
+use Rattle.placement.specs.Inner.Locations.{is_role}
 use Rattle.placement.specs.Rows.{IsRow}
 use Rattle.placement.proofs.totals.locations.located_row.Given as goal
 

@@ -1,6 +1,6 @@
 use Rattle.std.proofs.Common.{rules, ◌≡◌, ◌==◌, ◌&&◌, ◌++◌, ◌∷◌, [], true, if◌then◌else◌, length, ap}
 use Rattle.score.specs.NodeSet.{has}
-use Rattle.placement.specs.Locations.{is_role}
+use Rattle.placement.specs.Inner.Locations.{is_role}
 use Rattle.placement.specs.Rows.{more_where}
 use Rattle.placement.proofs.TermRows.{row-same}
 use Rattle.placement.proofs.totals.locations.put_rule.Goals as goal

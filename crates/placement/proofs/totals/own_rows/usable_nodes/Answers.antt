@@ -1,7 +1,7 @@
 use Rattle.std.proofs.Common.{rules, length, refl, arith}
 use Rattle.std.proofs.lemmas.Bool.{le-ltb}
 use Rattle.score.specs.NodeSet.{has}
-use Rattle.placement.specs.Usable.{is_usable_by}
+use Rattle.placement.specs.UsableNodes.{is_usable_by}
 use Rattle.score.proofs.NodeSets.{as_test}
 use Rattle.placement.proofs.totals.own_rows.usable_nodes.Goals as goal
 

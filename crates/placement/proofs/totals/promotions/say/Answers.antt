@@ -1,5 +1,5 @@
 use Rattle.std.proofs.Common.{rules, ◌≡◌, ◌+◌, ◌*◌, false, true, length, ap, ◌∙◌, arith}
-use Rattle.placement.specs.Promotions.{is_vacant}
+use Rattle.placement.specs.Inner.Promotions.{is_vacant}
 use Rattle.placement.proofs.FirstSaid.{freed, say-again, say-here, say-nowhere, taken}
 use Rattle.placement.proofs.totals.promotions.say.Goals as goal
 

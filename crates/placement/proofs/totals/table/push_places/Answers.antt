@@ -1,7 +1,7 @@
 use Rattle.std.proofs.Common.{rules, ◌≡◌, ◌++◌, ℕ, ℤ, List, ap, sym, subst, ◌∙◌, length, map}
 use Rattle.std.specs.List.{range_with_len}
 use Rattle.placement.specs.Inner.LendingRows.{all_joined}
-use Rattle.placement.specs.OwnRows.{terms_by}
+use Rattle.placement.specs.Inner.OwnRows.{terms_by}
 use Rattle.placement.specs.Rows.{IsRow}
 use Rattle.placement.specs.Inner.ScoresByStates.{place_by}
 use Rattle.placement.proofs.TermRows.{row-length}

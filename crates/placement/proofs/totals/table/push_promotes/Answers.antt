@@ -1,6 +1,6 @@
 use Rattle.std.proofs.Common.{rules, ◌≡◌, ◌++◌, ℕ, ℤ, List, ap, sym, subst, ◌∙◌, length, map}
 use Rattle.std.specs.List.{range_with_len}
-use Rattle.placement.specs.Promotions.{wished_by}
+use Rattle.placement.specs.Inner.Promotions.{wished_by}
 use Rattle.placement.specs.Rows.{IsRow}
 use Rattle.placement.specs.Inner.ScoresByStates.{promote_by}
 use Rattle.placement.proofs.TermRows.{row-length}

@@ -3,7 +3,7 @@ use Rattle.std.proofs.lemmas.Bool.{or_parts}
 use Rattle.std.proofs.lemmas.List.{get_or_default, take_all}
 use Rattle.lemmas.proofs.Members.{all_more}
 use Rattle.edges.specs.declared.edge.Edge.{Edge}
-use Rattle.placement.specs.Ties.{AreTied, is_missed, with_mark_if, unmarked}
+use Rattle.placement.specs.Inner.Ties.{AreTied, is_missed, with_mark_if, unmarked}
 use Rattle.placement.proofs.TieMarks.{tied-if, fewer-if, fewer-or}
 use Rattle.placement.proofs.totals.ties.pass.Goals as goal
 

@@ -1,7 +1,8 @@
 use Rattle.std.proofs.Common.{◌≡◌, ◌≤◌, ◌+◌, cond, false, take, Contains}
 use Rattle.cluster_types.specs.declared.cluster.Cluster.{Cluster}
 use Rattle.edges.specs.declared.edge.Edge.{Edge}
-use Rattle.placement.specs.Ties.{AreTied, AreTies, is_missed, unmarked}
+use Rattle.placement.specs.Ties.{AreTies}
+use Rattle.placement.specs.Inner.Ties.{AreTied, is_missed, unmarked}
 use Rattle.placement.proofs.totals.ties.pass.Given as goal
 
 abbrev pub invariant-loop-tie : goal.invariant-loop-tie

@@ -1,6 +1,6 @@
 use Rattle.std.proofs.Common.{◌≡◌, ◌+◌, cond, false, Contains}
 use Rattle.edges.specs.declared.edge.Edge.{Edge}
-use Rattle.placement.specs.Ties.{AreTied, is_missed, unmarked}
+use Rattle.placement.specs.Inner.Ties.{AreTied, is_missed, unmarked}
 use Rattle.placement.proofs.totals.ties.tied.Given as goal
 
 abbrev pub invariant-loop-changed : goal.invariant-loop-changed

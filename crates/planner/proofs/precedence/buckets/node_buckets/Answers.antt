@@ -1,6 +1,6 @@
 use Rattle.std.proofs.Common.{rules, ◌≡◌, ◌<◌, IfSome, length, get_or, subst, sym}
 use Rattle.std.specs.Prelude.{vec_len}
-use Rattle.planner.specs.Chains.{changed_node_at}
+use Rattle.planner.specs.Inner.Chains.{changed_node_at}
 use Rattle.planner.proofs.BucketsMore.{buckets_more, node_within}
 use Rattle.planner.proofs.precedence.buckets.node_buckets.Goals as goal
 

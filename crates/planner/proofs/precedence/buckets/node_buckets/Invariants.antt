@@ -1,6 +1,6 @@
 use Rattle.std.proofs.Common.{◌≡◌, length, take}
 use Rattle.std.specs.Prelude.{vec_len}
-use Rattle.planner.specs.Chains.{AreBuckets}
+use Rattle.planner.specs.Inner.Chains.{AreBuckets}
 use Rattle.planner.proofs.precedence.buckets.node_buckets.Given as goal
 
 abbrev pub invariant-loop-place : goal.invariant-loop-place

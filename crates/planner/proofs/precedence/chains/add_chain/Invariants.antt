@@ -1,4 +1,4 @@
-use Rattle.planner.specs.Chains.{changes_by}
+use Rattle.planner.specs.Inner.Chains.{changes_by}
 use Rattle.planner.proofs.ChainMore.{Chains}
 use Rattle.planner.proofs.precedence.chains.add_chain.Given as goal
 

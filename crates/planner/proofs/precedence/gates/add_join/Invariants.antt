@@ -1,5 +1,5 @@
 use Rattle.std.proofs.Common.{◌≡◌, ◌++◌, take}
-use Rattle.planner.specs.Gates.{join_edges, key_at}
+use Rattle.planner.specs.Inner.Gates.{join_edges, key_at}
 use Rattle.planner.proofs.precedence.gates.add_join.Given as goal
 
 abbrev pub invariant-loop-place : goal.invariant-loop-place

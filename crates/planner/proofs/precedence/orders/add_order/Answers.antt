@@ -5,7 +5,7 @@ use Rattle.cluster_types.specs.declared.cluster.Cluster.{Cluster}
 use Rattle.cluster_types.specs.Precedence.{is_serialize}
 use Rattle.planner.specs.declared.precedence.sides.Join.{Join}
 use Rattle.planner.specs.Joins.{inverse_join, own_join}
-use Rattle.planner.specs.Rooms.{IsEven, rows_of, width_of}
+use Rattle.planner.specs.Inner.Rooms.{IsEven, rows_of, width_of}
 use Rattle.planner.proofs.EvenJoins.{inverse_even}
 use Rattle.planner.proofs.OrderBuilds.{inverse_small, order_alone, order_both, own_small}
 use Rattle.planner.proofs.precedence.orders.add_order.Goals as goal

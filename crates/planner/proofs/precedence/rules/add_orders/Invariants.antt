@@ -3,7 +3,7 @@ use Rattle.std.specs.List.{flat_map}
 use Rattle.planner.specs.declared.precedence.sides.Join.{Join}
 use Rattle.planner.specs.Joins.{order_joins}
 use Rattle.planner.specs.Inner.Places.{places_of}
-use Rattle.planner.specs.Rooms.{Builds}
+use Rattle.planner.specs.Inner.Rooms.{Builds}
 use Rattle.planner.proofs.precedence.rules.add_orders.Given as goal
 
 abbrev pub invariant-loop-order : goal.invariant-loop-order

@@ -1,7 +1,7 @@
 use Rattle.std.proofs.Common.{rules, ◌≡◌, ◌*◌, true, false, length, subst}
 use Rattle.std.proofs.lemmas.Result.{on_ok_weaker}
 use Rattle.cluster_types.specs.Precedence.{is_serialize}
-use Rattle.planner.specs.Chains.{IsChainedSomewhere}
+use Rattle.planner.specs.Inner.Chains.{IsChainedSomewhere}
 use Rattle.planner.specs.Inner.Groups.{AddsGroup}
 use Rattle.planner.proofs.SerialSays.{other_adds, serial_adds}
 use Rattle.planner.proofs.precedence.serials.add_serial.Goals as goal

@@ -3,7 +3,7 @@ use Rattle.std.specs.List.{flat_map}
 use Rattle.std.proofs.lemmas.List.{append_assoc}
 use Rattle.planner.specs.Joins.{colocation_joins, first_joins, order_joins}
 use Rattle.planner.specs.Inner.Places.{places_of}
-use Rattle.planner.specs.Rooms.{Builds}
+use Rattle.planner.specs.Inner.Rooms.{Builds}
 use Rattle.planner.proofs.precedence.whole.all_joins.Goals as goal
 
 pub returns-clause-builds : goal.returns-clause-builds

@@ -3,7 +3,7 @@ use Rattle.std.proofs.lemmas.Int.{ints, to_z-of_z}
 use Rattle.score.proofs.RowFrames.{frame_of, changed_to}
 use Rattle.score.proofs.RowLaws.{row_finite, finite_same, put_stands}
 use Rattle.score.proofs.Tallies.{length-tallies}
-use Rattle.score.specs.Stored.{tallies}
+use Rattle.score.specs.StoredRows.{tallies}
 use Rattle.score.proofs.row.Row.put.Goals as goal
 
 pub raise-requires : goal.raise-requires

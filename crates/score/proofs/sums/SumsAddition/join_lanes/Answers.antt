@@ -1,7 +1,7 @@
 use Rattle.std.proofs.Common.{◌+◌, ◌-◌, ◌<◌, ◌∙◌, arith, replicate}
 use Rattle.std.specs.Simd.Lanes.{zip2}
 use Rattle.std.proofs.lemmas.Simd.{get_or-zip2, get_or-replicate, length-replicate, length-zip2}
-use Rattle.score.specs.Stored.{bias}
+use Rattle.score.specs.StoredRows.{bias}
 use Rattle.score.proofs.Blocks.{Each2_from}
 use Rattle.score.proofs.sums.SumsAddition.join_lanes.Goals as goal
 

@@ -1,5 +1,5 @@
 use Rattle.std.proofs.Common.{◌≡◌, ◌≤◌, length}
-use Rattle.graph_exec.specs.Telling.{plan_lines}
+use Rattle.graph_exec.specs.WatcherLines.{plan_lines}
 use Rattle.sim_core.specs.Inner.Auditors.{audited_cluster}
 use Rattle.sim_core.proofs.Told.{HearsOn}
 use Rattle.sim_core.proofs.auditor.Auditor.hear_plan.Given as goal

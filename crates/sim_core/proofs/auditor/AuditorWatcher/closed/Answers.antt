@@ -1,6 +1,6 @@
 use Rattle.std.proofs.Common.{[], ◌∷◌, refl}
 use Rattle.cluster_types.specs.declared.run.RunLine.TheVariants as line
-use Rattle.graph_exec.specs.Telling.{view_amid, view_between}
+use Rattle.graph_exec.specs.WatcherLines.{view_amid, view_between}
 use Rattle.sim_core.proofs.Shows.{shows_others}
 use Rattle.sim_core.proofs.auditor.AuditorWatcher.closed.Goals as goal
 

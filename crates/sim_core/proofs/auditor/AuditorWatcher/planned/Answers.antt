@@ -1,6 +1,6 @@
 use Rattle.std.proofs.Common.{refl, subst}
 use Rattle.cluster_types.specs.declared.cluster.Cluster.{Cluster}
-use Rattle.graph_exec.specs.Telling.{StopsAmong, plan_lines, view_amid, view_between}
+use Rattle.graph_exec.specs.WatcherLines.{StopsAmong, plan_lines, view_amid, view_between}
 use Rattle.sim_core.specs.Inner.Auditors.{PassesLines, StopsAtLine, audited_cluster}
 use Rattle.sim_core.proofs.Shows.{none_of_plan, shows_others}
 use Rattle.sim_core.proofs.auditor.AuditorWatcher.planned.Goals as goal

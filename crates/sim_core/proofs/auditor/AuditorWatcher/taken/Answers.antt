@@ -1,6 +1,6 @@
 use Rattle.std.proofs.Common.{refl}
 use Rattle.cluster_types.specs.declared.run.RunLine.TheVariants as line
-use Rattle.cluster_types.specs.Answering.{added_by}
+use Rattle.cluster_types.specs.AnswersThatApply.{added_by}
 use Rattle.sim_core.proofs.Shows.{shows_event}
 use Rattle.sim_core.proofs.auditor.AuditorWatcher.taken.Goals as goal
 

@@ -2,7 +2,8 @@ use Rattle.std.proofs.Common.{◌≡◌, ◌+◌, Option, Some, None, ◌∙◌}
 use Rattle.simulated.specs.declared.turn.Turn.{Turn}
 use Rattle.cases.specs.Draws.{draw}
 use Rattle.simulated.specs.Inner.NodeTurns.{draws_for_node, node_turn}
-use Rattle.simulated.specs.Turns.{calm, first_number, with_draws}
+use Rattle.simulated.specs.Turns.{first_number}
+use Rattle.simulated.specs.Inner.Turns.{calm, with_draws}
 use Rattle.simulated.proofs.Turned.{ends_may, low_early, none_shows, none_turn, of_node_may, some_shows, some_turn}
 use Rattle.simulated.proofs.reality.Reality.turn.Goals as goal
 

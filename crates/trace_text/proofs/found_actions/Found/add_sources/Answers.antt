@@ -3,9 +3,9 @@ use Rattle.std.specs.List.{list_any}
 use Rattle.std.proofs.lemmas.List.{get_or_read, take_all}
 use Rattle.std.proofs.lemmas.List.Elements.{Contains-get_or}
 use Rattle.cluster_types.specs.Inner.Walks.{joins}
-use Rattle.edges.specs.Rows.{no_edge}
-use Rattle.trace_text.specs.Inner.Arriving.{last_to}
-use Rattle.trace_text.specs.Inner.Found.{is_found}
+use Rattle.edges.specs.Inner.Rows.{no_edge}
+use Rattle.trace_text.specs.Inner.ArrivingEdges.{last_to}
+use Rattle.trace_text.specs.Inner.FoundPositions.{is_found}
 use Rattle.trace_text.proofs.Linked.{IsLast, joined_on, last_known}
 use Rattle.trace_text.proofs.Places.{same_sizes, sizes_kept}
 use Rattle.trace_text.proofs.found_actions.Found.add_sources.Goals as goal

@@ -1,8 +1,8 @@
 use Rattle.std.proofs.Common.{◌≡◌, ◌<◌, ◌≤◌, ◌-◌, ◌||◌, ℕ, length, take, get_or}
 use Rattle.std.specs.List.{list_any}
 use Rattle.cluster_types.specs.Inner.Walks.{joins}
-use Rattle.edges.specs.Rows.{no_edge}
-use Rattle.trace_text.specs.Inner.Found.{SameSizes, is_found}
+use Rattle.edges.specs.Inner.Rows.{no_edge}
+use Rattle.trace_text.specs.Inner.FoundPositions.{SameSizes, is_found}
 use Rattle.trace_text.proofs.found_actions.Found.add_sources.Given as goal
 
 abbrev pub invariant-loop-next : goal.invariant-loop-next

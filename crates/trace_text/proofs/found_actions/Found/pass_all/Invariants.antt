@@ -1,6 +1,6 @@
 use Rattle.std.proofs.Common.{ℕ, length}
 use Rattle.trace_text.specs.Inner.Backward.{IsOnTheWay}
-use Rattle.trace_text.specs.Inner.Found.{SameSizes, is_found}
+use Rattle.trace_text.specs.Inner.FoundPositions.{SameSizes, is_found}
 use Rattle.trace_text.proofs.NextGate.{gates_left}
 use Rattle.trace_text.proofs.found_actions.Found.pass_all.Given as goal
 

@@ -1,6 +1,6 @@
 use Rattle.std.proofs.Common.{arith, ◌≡◌, length, sym, ◌∙◌}
 use Rattle.trace_text.specs.declared.found_actions.Found.{Found}
-use Rattle.trace_text.specs.Inner.Found.{PositionsHaveRoom, is_found}
+use Rattle.trace_text.specs.Inner.FoundPositions.{PositionsHaveRoom, is_found}
 use Rattle.trace_text.proofs.NextGate.{of_sizes, way_begun}
 use Rattle.trace_text.proofs.found_actions.Found.walk_to.Goals as goal
 

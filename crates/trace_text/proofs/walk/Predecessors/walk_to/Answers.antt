@@ -4,7 +4,7 @@ use Rattle.cluster_types.specs.declared.graph_edges.Edges.{Edges}
 use Rattle.edges.specs.Loops.{EndsWithin}
 use Rattle.listed.specs.Sets.{members}
 use Rattle.trace_text.specs.Inner.Backward.{IsOnTheWay}
-use Rattle.trace_text.specs.Inner.Found.{is_found}
+use Rattle.trace_text.specs.Inner.FoundPositions.{is_found}
 use Rattle.trace_text.specs.Inner.Walk.{befores}
 use Rattle.trace_text.proofs.NextGate.{of_sizes}
 use Rattle.trace_text.proofs.Places.{room_kept}

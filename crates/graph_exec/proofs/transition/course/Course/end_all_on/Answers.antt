@@ -1,13 +1,13 @@
 use Rattle.std.proofs.Common.{arith, ◌≡◌, ◌∙◌, length, sym}
 use Rattle.cluster_types.specs.Steps.{numbers_in_flight, in_flight_by_number}
-use Rattle.graph_exec.specs.Running.{going}
+use Rattle.graph_exec.specs.Executors.{transition_in}
 use Rattle.graph_exec.proofs.Flying.{stands_at, many_flying, gone_is, one_less}
 use Rattle.graph_exec.proofs.Losses.{losing_pass, losing_end, losing_done}
 use Rattle.graph_exec.proofs.transition.course.Course.end_all_on.Goals as goal
 
 pub loop-place-smaller-then-not-is_on : goal.loop-place-smaller-then-not-is_on
 loop-place-smaller-then-not-is_on c =
-    let many : length (in_flight_by_number (going c.loop-place.self) c.loop-place.self.since) ≡ length (numbers_in_flight (going c.loop-place.self) c.loop-place.self.since)
+    let many : length (in_flight_by_number (transition_in c.loop-place.self) c.loop-place.self.since) ≡ length (numbers_in_flight (transition_in c.loop-place.self) c.loop-place.self.since)
     = many_flying c.loop-place.self in
     let counted = rw c.flight.ensures.pairs at c.count.ensures in
     let test = c.loop-place-test.true in
@@ -25,7 +25,7 @@ end-requires c =
 pub loop-place-smaller : goal.loop-place-smaller
 loop-place-smaller c =
     let s = stands_at c.loop-place.self c.loop-place.place c.at-number.result.0 c.at-number.result.1 (rw c.flight-in-loop-place.ensures.pairs at c.at-number.ensures) in
-    let many : length (in_flight_by_number (going c.loop-place.self) c.loop-place.self.since) ≡ length (numbers_in_flight (going c.loop-place.self) c.loop-place.self.since)
+    let many : length (in_flight_by_number (transition_in c.loop-place.self) c.loop-place.self.since) ≡ length (numbers_in_flight (transition_in c.loop-place.self) c.loop-place.self.since)
     = many_flying c.loop-place.self in
     let counted = rw c.flight.ensures.pairs at c.count.ensures in
     let test = c.loop-place-test.true in
@@ -39,7 +39,7 @@ loop-place-preserved c =
 
 pub returns : goal.returns
 returns c =
-    let many : length (in_flight_by_number (going c.loop-place.self) c.loop-place.self.since) ≡ length (numbers_in_flight (going c.loop-place.self) c.loop-place.self.since)
+    let many : length (in_flight_by_number (transition_in c.loop-place.self) c.loop-place.self.since) ≡ length (numbers_in_flight (transition_in c.loop-place.self) c.loop-place.self.since)
     = many_flying c.loop-place.self in
     let counted = rw c.flight.ensures.pairs at c.count.ensures in
     let test = c.loop-place-test.false in

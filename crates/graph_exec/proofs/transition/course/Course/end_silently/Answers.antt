@@ -1,13 +1,13 @@
 use Rattle.std.proofs.Common.{arith, ◌≡◌, length, refl}
 use Rattle.cluster_types.specs.Steps.{numbers_in_flight, in_flight_by_number}
-use Rattle.graph_exec.specs.Running.{going}
+use Rattle.graph_exec.specs.Executors.{transition_in}
 use Rattle.graph_exec.proofs.Flying.{stands_at, many_flying}
 use Rattle.graph_exec.proofs.Silent.{ends_silently}
 use Rattle.graph_exec.proofs.transition.course.Course.end_silently.Goals as goal
 
 pub at-number-requires : goal.at-number-requires
 at-number-requires c =
-    let many : length (in_flight_by_number (going c.args.self.now) c.args.self.now.since) ≡ length (numbers_in_flight (going c.args.self.now) c.args.self.now.since)
+    let many : length (in_flight_by_number (transition_in c.args.self.now) c.args.self.now.since) ≡ length (numbers_in_flight (transition_in c.args.self.now) c.args.self.now.since)
     = many_flying c.args.self.now in
     let busy = c.requires.busy in
     rw c.flight.ensures.pairs (omega arith)

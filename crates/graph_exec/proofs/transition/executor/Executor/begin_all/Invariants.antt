@@ -1,11 +1,11 @@
 use Rattle.std.proofs.Common.{◌≡◌, ◌≤◌}
 use Rattle.graph_exec.specs.declared.transition.watcher.Heard.TheVariants as heard
 use Rattle.graph_exec.specs.Counts.{IsAbortAnswered}
-use Rattle.graph_exec.specs.Lasting.{SourceLasts, WatcherLasts, none_failed}
+use Rattle.graph_exec.specs.LastWords.{SourceLasts, WatcherLasts, none_failed}
 use Rattle.graph_exec.specs.Inner.Rounds.{asks_left, begins_left}
-use Rattle.graph_exec.specs.Running.{Went}
+use Rattle.graph_exec.specs.Executors.{Went}
 use Rattle.graph_exec.specs.Transitions.{Accords, WentAsSaid}
-use Rattle.graph_exec.specs.Watching.{AreLinesTold, IsShownAll}
+use Rattle.graph_exec.specs.WatchedTransitions.{AreLinesTold, IsShownAll}
 use Rattle.graph_exec.proofs.transition.executor.Executor.begin_all.Given as goal
 
 abbrev pub invariant-loop : goal.invariant-loop

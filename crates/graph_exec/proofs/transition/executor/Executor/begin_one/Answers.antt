@@ -1,6 +1,6 @@
 use Rattle.std.proofs.Common.{Some, ap, ◌∙◌}
 use Rattle.graph_exec.specs.declared.transition.watcher.Heard.TheVariants as heard
-use Rattle.graph_exec.specs.Watching.{view_of}
+use Rattle.graph_exec.specs.WatchedTransitions.{view_of}
 use Rattle.graph_exec.proofs.Aborting.{begin_aborted, none_aborted}
 use Rattle.graph_exec.proofs.Carrying.{fewer_begins, no_more_asks, went_begun, went_nowhere}
 use Rattle.graph_exec.proofs.Lasts.{source_same, source_told, watcher_same, watcher_told}

@@ -1,6 +1,6 @@
 use Rattle.std.proofs.Common.{refl}
 use Rattle.graph_exec.specs.declared.transition.watcher.Heard.TheVariants as heard
-use Rattle.graph_exec.specs.Watching.{IsShownAll}
+use Rattle.graph_exec.specs.WatchedTransitions.{IsShownAll}
 use Rattle.graph_exec.proofs.Aborting.{none_aborted}
 use Rattle.graph_exec.proofs.Carrying.{advanced, ends_by, gone_by, same_by, still_going, went_answered, went_nowhere}
 use Rattle.graph_exec.proofs.Lasts.{source_same, watcher_then, watcher_told, watcher_untold}

@@ -1,5 +1,5 @@
 use Rattle.std.proofs.Common.{◌≡◌, ◌-◌, [], vec_capacity}
-use Rattle.graph_exec.specs.Inner.Freed.{ClearsGates}
+use Rattle.graph_exec.specs.Inner.ClearedPositions.{ClearsGates}
 use Rattle.graph_exec.proofs.transition.queue.Queue.drain.Given as goal
 
 abbrev pub invariant-loop-taken : goal.invariant-loop-taken

@@ -1,0 +1,3 @@
+-- What no public clause rests on: what the code of this crate keeps and counts on the way, for its proofs alone.
+pub mod Quoting
+pub mod Text

@@ -1,0 +1,55 @@
+-- What is to come of result lines: their answers, up to the first line that is refused or goes past the limit (rule of this project).
+use Rattle.std.specs.Prelude.{◌≡◌, ℕ, ◌+◌, ◌-◌, ◌^◌, ◌≤◌, ◌<◌, Option, Some, None, List, [], ◌∷◌, ◌++◌, length}
+use Rattle.std.specs.List.{concat}
+use Rattle.cluster_io.specs.Readings.{Reading}
+use Rattle.cluster_types.specs.declared.cluster.Cluster.{Cluster}
+use Rattle.crm_lex.specs.RawLines.{raw_lines}
+use Rattle.input_reading.specs.declared.results.result_lines.ResultLine.{ResultLine}
+use Rattle.live_run.specs.LineSays.{place_behind_said, line_says_within}
+use Rattle.live_run.specs.declared.line_stop.LineStop.{LineStop}
+use Rattle.live_run.specs.declared.place.Place.{Place}
+use Rattle.live_run.specs.declared.line_meaning.Said.{Said}
+use Rattle.live_run.specs.declared.line_meaning.Said.TheVariants as said
+
+-- answers with their lines, and why there are no more, if that is so by a line that is refused or goes past the limit
+pub record Coming : Type 0 where
+  pub results : List ResultLine
+  pub stop : Option LineStop
+
+-- no answer more
+abbrev pub no_more : Option LineStop → Coming
+no_more why = record { results = []; stop = why }
+
+abbrev pub result_first : ResultLine → Coming → Coming
+result_first result others = record { results = result ∷ others.results; stop = others.stop }
+
+-- what a line at a place says, and then what the others say
+abbrev pub said_first : Place → Said → Coming → Coming
+said_first at said.Nothing others = others
+said_first at (said.Answer given) others = result_first (record { line = at.line; answer = given }) others
+said_first at (said.Stop why) others = no_more (Some why)
+
+-- what is to come of some logical lines, each of which is given by its physical lines. A line may have so many bytes without line ends; the first stands at
+-- this place; and so many of the bytes to come lie within the limit
+abbrev pub coming : Cluster → ℕ → Place → ℕ → List (List (List ℕ)) → Coming
+coming c longest at room [] = no_more None
+coming c longest at room (lines ∷ more) =
+    said_first at (line_says_within c longest at room lines)
+    (coming c longest (place_behind_said at (line_says_within c longest at room lines) (length lines)) (room - length (concat lines)) more)
+
+-- lines that are read: the place of the next, and what their reader holds
+pub record Lines : Type 0 where
+  pub at : Place
+  pub reading : Reading
+
+-- what is to come of all bytes to come: those that the reader holds, and those that its source has left
+abbrev pub coming_of : Cluster → Lines → List ℕ → Coming
+coming_of c lines left = coming c lines.reading.longest lines.at lines.reading.room (raw_lines (lines.reading.held ++ left))
+
+-- the numbers of some lines have their ranges: seconds below 2^40, at most 10,000 result lines, and numbers of lines below 2^32. The place and the reader
+-- agree on the number of the next line
+pub record AreReady (lines : Lines) : Type 0 where
+  pub moment : lines.at.moment < 2 ^ 40
+  pub few : lines.at.before ≤ 10000
+  pub line : lines.at.line ≡ lines.reading.next
+  pub numbered : lines.reading.next + lines.reading.room ≤ 2 ^ 32

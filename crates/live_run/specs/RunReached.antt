@@ -1,0 +1,199 @@
+-- What a run over result lines has read and written at its end, by what its source of bytes had left at the beginning (rule of this project).
+use Rattle.std.specs.Prelude.{◌≡◌, ◌⊎◌, ℕ, ◌-◌, length, false, Option, Some, None, List, [], ◌∷◌, ◌++◌, is_none, map}
+use Rattle.cluster_io.specs.NextLine.{holds_line, IsUndecided}
+use Rattle.cluster_io.specs.Readings.{Reading}
+use Rattle.cluster_io.specs.Streams.{Adds, AddsPrefix, TakesBytes}
+use Rattle.cluster_types.specs.declared.cluster.Cluster.{Cluster}
+use Rattle.cluster_types.specs.declared.journal.Answer.{Answer}
+use Rattle.cluster_types.specs.declared.journal.Event.{Event}
+use Rattle.cluster_types.specs.declared.journal.Journal.{Journal}
+use Rattle.cluster_types.specs.declared.run.RunLine.{RunLine}
+use Rattle.cluster_types.specs.declared.run.RunLine.TheVariants as line
+use Rattle.cluster_types.specs.Journals.{moment_of}
+use Rattle.cluster_types.specs.Runs.{RunStanding, due, Runs, IsAsking, IsBetween, IsRunSoFar, IsStoppedRun}
+use Rattle.cluster_types.specs.Texts.{run_line}
+use Rattle.crm_lex.specs.RawLines.{raw_lines}
+use Rattle.live_run.specs.AnswersToCome.{Coming, Lines, coming_of}
+use Rattle.live_run.specs.Courses.{answers_to_come, starting}
+use Rattle.live_run.specs.SourceFollowed.{AreNear, NoneOrLastSays, bytes_of, said_by}
+use Rattle.live_run.specs.declared.line_stop.LineCause.{LineCause}
+use Rattle.live_run.specs.declared.line_stop.LineStop.TheVariants as why
+use Rattle.input_reading.specs.declared.results.result_lines.ResultLine.{ResultLine}
+use Rattle.run_safety.specs.TwoRuns.{EndsBetween, IsFront}
+use Rattle.live_run.specs.LineCauses.{line_refusal_text}
+use Rattle.live_run.specs.HeldAndWritten.{CutsShort}
+use Rattle.live_run.specs.Ends.{AsksForMore, EndGets, CutRunGives, run_lines_text}
+use Rattle.live_run.specs.declared.live_end.LiveEnd.{LiveEnd}
+use Rattle.live_run.specs.declared.live_end.LiveEnd.TheVariants as end
+
+-- the place of the first result line: the moment is that of the journal
+abbrev pub first_result_place : Cluster → Journal → Reading → Lines
+first_result_place c journal reading = (starting c (moment_of journal.events) reading).lines
+
+-- what is to come of the result lines behind a head, where so many bytes are left
+abbrev pub results_behind : Cluster → Journal → Reading → List ℕ → Coming
+results_behind c journal reading left = coming_of c (first_result_place c journal reading) left
+
+-- of a text these logical lines were taken whole. Behind them some bytes are held, and the source has the others left
+pub record IsTakenWhole (text : List ℕ) (after : Option (List ℕ)) : Type 0 where
+  pub lines : List (List (List ℕ))
+  pub held : List ℕ
+  pub unread : List ℕ
+  pub left_is : after ≡ Some unread
+  pub parts : text ≡ bytes_of lines ++ (held ++ unread)
+  pub cut : raw_lines text ≡ lines ++ raw_lines (held ++ unread)
+
+-- bytes that are held give no answer yet: they hold no whole line, and none that is too long or goes past the limit
+pub record GivesNoAnswer (room longest : ℕ) (held : List ℕ) : Type 0 where
+  pub unfinished : holds_line held ≡ false
+  pub undecided : IsUndecided room longest held
+
+-- of a run over these bytes, of which the source has some left now
+module _ (c : Cluster) (journal : Journal) (reading : Reading) (left : List ℕ) (after : Option (List ℕ)) where
+  -- what is to come of its result lines
+  abbrev pub results : Coming
+  results = results_behind c journal reading left
+
+  -- the lines that say this were asked for, and no more: of what lies behind the last of them only what came with its end was taken, fewer than 4,096 bytes
+  pub record AskedFor (asked : Coming) : Type 0 where
+    pub lines : List (List (List ℕ))
+    pub first : IsFront lines (raw_lines (reading.held ++ left))
+    pub said : said_by c (first_result_place c journal reading) lines ≡ asked
+    pub ends : NoneOrLastSays c (first_result_place c journal reading) lines
+    pub bytes : List ℕ
+    pub taken : TakesBytes (Some left) bytes after
+    pub near : AreNear (first_result_place c journal reading) lines bytes
+
+  -- all was asked for, and read: no line of it ended the reading
+  pub record AskedForAll (asked : Coming) : Type 0 where
+    pub all : results ≡ asked
+    pub unstopped : asked.stop ≡ None
+    pub none_left : after ≡ Some []
+
+  -- a call of the writer amid the run, behind these lines: it is told the lines of one step, one by one, up to this one, and those behind it no more. Nor is it
+  -- told the line that ends the transition, which may come right behind the step. The run has taken these answers by then
+  pub record CallInRun : Type 0 where
+    pub printed : List RunLine
+    pub told : List RunLine
+    pub at : RunLine
+    pub untold : List RunLine
+    pub closing : List RunLine
+    pub journal_now : List Event
+    pub given : List ResultLine
+    pub behind : List ResultLine
+    pub split : results.results ≡ given ++ behind
+    pub run : IsStoppedRun c journal.promotions (is_none results.stop) journal.events (Some (answers_to_come results)) printed (told ++ at ∷ untold) closing journal_now
+        (Some (map (λ (r : ResultLine). r.answer) behind))
+
+  -- the call that writes `unexpected LINE` of the answer behind these, which doesn't apply
+  pub record CallOfUnexpected : Type 0 where
+    pub printed : List RunLine
+    pub given : List ResultLine
+    pub result : ResultLine
+    pub run : CutRunGives c journal results printed given result
+
+  -- the call that writes `refused LINE CAUSE`
+  pub record CallOfRefusal : Type 0 where
+    pub printed : List RunLine
+    pub line : ℕ
+    pub cause : LineCause
+    pub stop : results.stop ≡ Some (why.Refused line cause)
+    pub run : AsksForMore c journal results printed
+
+  -- the call that writes what is held back where the run asks for an answer, or stands between two transitions. These answers were taken by then, and no
+  -- line behind them was asked for; or all answers were, and the line behind them that is refused was asked for too, if there is one
+  pub record CallOfHeldBack : Type 0 where
+    pub printed : List RunLine
+    pub at : RunStanding
+    pub asked : Coming
+    pub behind : List ResultLine
+    pub split : results.results ≡ asked.results ++ behind
+    pub run : Runs c journal.promotions (is_none results.stop) (due 1 journal.events) (Some (answers_to_come results)) printed at
+        (Some (map (λ (r : ResultLine). r.answer) behind))
+    pub waits : IsAsking c journal.promotions (is_none results.stop) at ⊎ IsBetween c journal.promotions (is_none results.stop) at
+    pub one_more : (asked.stop ≡ None) ⊎ (asked ≡ results)
+
+  -- one call of the writer
+  pub data WriterCall : Type 0 where
+    in_run : CallInRun → WriterCall
+    of_held_back : CallOfHeldBack → WriterCall
+    of_unexpected : CallOfUnexpected → WriterCall
+    of_refusal : CallOfRefusal → WriterCall
+
+  -- the lines that were told before it
+  abbrev pub lines_before_call : WriterCall → List RunLine
+  lines_before_call (in_run call) = call.printed ++ call.told
+  lines_before_call (of_held_back call) = call.printed
+  lines_before_call (of_unexpected call) = call.printed
+  lines_before_call (of_refusal call) = call.printed
+
+  -- what was asked for by then
+  abbrev pub asked_by_call : WriterCall → Coming
+  asked_by_call (in_run call) = record { results = call.given; stop = None }
+  asked_by_call (of_held_back call) = call.asked
+  asked_by_call (of_unexpected call) = record { results = call.given ++ call.result ∷ []; stop = None }
+  asked_by_call (of_refusal call) = results
+
+  -- what it adds to these
+  abbrev pub text_of_call : WriterCall → List ℕ
+  text_of_call (in_run call) = run_line c call.at
+  text_of_call (of_held_back call) = []
+  text_of_call (of_unexpected call) = run_line c (line.Unexpected call.result.line)
+  text_of_call (of_refusal call) = line_refusal_text call.line call.cause
+
+  -- and of what a sink held before and holds now
+  module _ (old new : Option (List ℕ)) where
+    -- the text that is due with this end was written
+    pub record HasWritten (how : LiveEnd) : Type 0 where
+      pub text : List ℕ
+      pub gets : EndGets c journal results how text
+      pub added : Adds old text new
+
+    -- the run took the answers of these lines, each of them and no other, and asks for one more. No action has ended silently. Its lines were written
+    pub record IsRunOverLines (lines : List (List (List ℕ))) : Type 0 where
+      pub given : List ResultLine
+      pub said : said_by c (first_result_place c journal reading) lines ≡ record { results = given; stop = None }
+      pub behind : List ResultLine
+      pub split : results.results ≡ given ++ behind
+      pub printed : List RunLine
+      pub journal_now : List Event
+      pub run : IsRunSoFar c journal.promotions (is_none results.stop) journal.events (Some (answers_to_come results)) printed journal_now
+          (Some (map (λ (r : ResultLine). r.answer) behind))
+      pub none_silent : IsRunSoFar c journal.promotions false journal.events (Some (map (λ (r : ResultLine). r.answer) given)) printed journal_now (Some [])
+      pub added : Adds old (run_lines_text c printed) new
+
+    -- the source failed, behind some bytes that it gave: of the bytes that were held, and these, some lines were taken whole. The others give no answer yet,
+    -- and the run went over these lines
+    pub record IsBrokenOff : Type 0 where
+      pub bytes : List ℕ
+      pub taken : TakesBytes (Some left) bytes after
+      pub whole : IsTakenWhole (reading.held ++ left) after
+      pub no_answer : GivesNoAnswer (reading.room - length (bytes_of whole.lines)) reading.longest whole.held
+      pub ran : IsRunOverLines whole.lines
+
+    -- the sink failed in one call: a front was written of the lines before it and of what it adds to these. Of the lines before it at most 65,536 bytes are
+    -- missing. No line was asked for since. It is a front of the text that is due
+    pub record IsCutOff : Type 0 where
+      pub call : WriterCall
+      pub read : AskedFor (asked_by_call call) ⊎ AskedForAll (asked_by_call call)
+      pub cut : CutsShort (run_lines_text c (lines_before_call call)) (text_of_call call) old new
+      pub begins : (how : LiveEnd) (whole : List ℕ) → EndGets c journal results how whole → AddsPrefix whole old new
+
+    -- memory ran out between two transitions: the lines up to there were written, none or ones that end with `complete K`, `aborted K` or an answer that came
+    -- while nothing was to be done. They are a front of the text that is due
+    pub record HasNoMemory : Type 0 where
+      pub printed : List RunLine
+      pub at : RunStanding
+      pub behind : Option (List Answer)
+      pub run : Runs c journal.promotions (is_none results.stop) (due 1 journal.events) (Some (answers_to_come results)) printed at behind
+      pub between : IsBetween c journal.promotions (is_none results.stop) at
+      pub ends : EndsBetween journal.events at printed
+      pub added : Adds old (run_lines_text c printed) new
+      pub begins : (how : LiveEnd) (whole : List ℕ) → EndGets c journal results how whole → AddsPrefix whole old new
+
+    -- what each end says
+    abbrev pub Reaches : LiveEnd → Type 0
+    Reaches end.ReadFault = IsBrokenOff
+    Reaches end.WriteFault = IsCutOff
+    Reaches end.NoMemory = HasNoMemory
+    Reaches how = HasWritten how

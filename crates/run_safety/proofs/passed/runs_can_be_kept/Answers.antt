@@ -1,5 +1,0 @@
-use Rattle.run_safety.proofs.KeptRuns.{runs_kept}
-use Rattle.run_safety.proofs.passed.runs_can_be_kept.Goals as goal
-
-pub returns : goal.returns
-returns c = λ cl ps whole es at rest left lines runs. runs_kept cl ps whole es at rest left lines runs

@@ -1,0 +1,83 @@
+-- What an answer to the word `replay` says of its input, of what was read of it, and of what was written, while the one goes on with the other (rules of
+-- this project).
+use Rattle.std.specs.Prelude.{◌≡◌, ℕ, ◌-◌, ◌<◌, Option, Some, List, [], ◌++◌, length, IfSome}
+use Rattle.cluster_io.specs.Readings.{Reading}
+use Rattle.cluster_io.specs.Streams.{Adds, AddsPrefix}
+use Rattle.cluster_types.specs.declared.cluster.Cluster.{Cluster}
+use Rattle.cluster_types.specs.declared.journal.Journal.{Journal}
+use Rattle.live_run.specs.SourceFollowed.{bytes_of}
+use Rattle.live_run.specs.Heads as heads
+use Rattle.live_run.specs.RunReached.{GivesNoAnswer, HasNoMemory, IsBrokenOff, IsCutOff, IsTakenWhole}
+use Rattle.input_reading.specs.declared.input.cause.InputCause.{InputCause}
+use Rattle.input_reading.specs.declared.input.reading.Head.{Head}
+use Rattle.sim_core.specs.declared.status.Status.{Status}
+use Rattle.sim_core.specs.declared.status.Status.TheVariants.{Done, NoMemory, Usage, ReadFault, WriteFault, Refused, Unexpected, TooLarge, NotLawful}
+use Rattle.input_reading.specs.Causes.{refusal_text}
+use Rattle.input_reading.specs.Reading.{longest_line, most_bytes}
+use Rattle.sim_core.specs.Replay.{IsHeadRead, IsHeadFault, IsReplayOutput, head_in}
+
+-- reading stopped amid the head: behind each of the lines that were taken whole the head goes on, and what is held gives no answer yet
+pub record IsAmidHead (input : List ℕ) (left : Option (List ℕ)) : Type 0 where
+  pub whole : IsTakenWhole input left
+  pub goes_on : heads.AllGoOnBehind most_bytes longest_line 1 whole.lines
+  pub no_answer : GivesNoAnswer (most_bytes - length (bytes_of whole.lines)) longest_line whole.held
+
+-- what the sink holds before and after
+module _ (input : List ℕ) (left before after : Option (List ℕ)) where
+  -- the whole text was written that comes with this status
+  pub record HasWrittenReplay (status : Status) : Type 0 where
+    pub text : List ℕ
+    pub due : IsReplayOutput input status text
+    pub added : Adds before text after
+
+  -- the input was read to its end, and its whole run was written
+  pub record IsReplayDone : Type 0 where
+    pub at_end : IfSome left (λ bytes. bytes ≡ [])
+    pub written : HasWrittenReplay Done
+
+  -- the head was taken whole, and this became of the run that follows from it. Behind the head fewer than 4,096 bytes are held, and the source had the
+  -- others left
+  pub record IsBehindHead (Became : Cluster → Journal → Reading → List ℕ → Option (List ℕ) → Option (List ℕ) → Option (List ℕ) → Type 0) : Type 0 where
+    pub bytes : List ℕ
+    pub head : Head
+    pub reading : Reading
+    pub unread : List ℕ
+    pub begun : IsHeadRead input bytes head reading.next reading.room
+    pub longest : reading.longest ≡ longest_line
+    pub parts : input ≡ bytes ++ (reading.held ++ unread)
+    pub short : length reading.held < 4096
+    pub became : Became head.cluster head.journal reading unread left before after
+
+  -- the sink failed while the fault of the head was written
+  pub record IsCutInRefusal : Type 0 where
+    pub line : ℕ
+    pub why : InputCause
+    pub fault : IsHeadFault input line why
+    pub front : AddsPrefix (refusal_text line why) before after
+
+  -- the source failed, amid the head, where nothing was written, or behind it
+  pub data HasReadFault : Type 0 where
+    amid_head : IsAmidHead input left → after ≡ before → HasReadFault
+    behind_head : IsBehindHead IsBrokenOff → HasReadFault
+
+  -- the sink failed
+  pub data HasWriteFault : Type 0 where
+    of_head : IsCutInRefusal → HasWriteFault
+    of_run : IsBehindHead IsCutOff → HasWriteFault
+
+  -- memory ran out before anything was written, or between two transitions
+  pub data RanOutOfMemory : Type 0 where
+    at_first : after ≡ before → RanOutOfMemory
+    between_two : IsBehindHead HasNoMemory → RanOutOfMemory
+
+  -- what each status says
+  abbrev pub SaysLive : Status → Type 0
+  SaysLive Done = IsReplayDone
+  SaysLive NoMemory = RanOutOfMemory
+  SaysLive Usage = ⊥
+  SaysLive ReadFault = HasReadFault
+  SaysLive WriteFault = HasWriteFault
+  SaysLive Refused = HasWrittenReplay Refused
+  SaysLive Unexpected = HasWrittenReplay Unexpected
+  SaysLive TooLarge = HasWrittenReplay TooLarge
+  SaysLive NotLawful = ⊥
