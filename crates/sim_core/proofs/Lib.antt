@@ -4,6 +4,7 @@ pub mod OneReplay
 pub mod OneAudit
 pub mod OneOutcome
 pub mod Completeness
+pub mod FewTaken
 -- The word `replay`.
 pub mod Beginnings
 pub mod SameComing
@@ -13,6 +14,8 @@ pub mod Promised
 pub mod SafeTexts
 pub mod Tallied
 pub mod OneSummary
+pub mod OneReport
+pub mod OneOutput
 pub mod Comments
 pub mod ReadsAgain
 -- An audit.
