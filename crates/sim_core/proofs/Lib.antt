@@ -4,7 +4,6 @@ pub mod OneReplay
 pub mod OneAudit
 pub mod OneOutcome
 pub mod Completeness
-pub mod FewTaken
 -- The word `replay`.
 pub mod Beginnings
 pub mod SameComing
