@@ -6,8 +6,8 @@ mod names;
 mod numbers;
 
 // Which actions of a graph come before one.
-mod arriving_edges;
-mod found_actions;
+mod found_positions;
+mod sources;
 mod walk;
 
 // The lines of each text.
