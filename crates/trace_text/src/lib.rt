@@ -23,7 +23,6 @@ mod line_text;
 mod run_line_ref;
 mod run_lines;
 mod runs;
-mod short_numbers;
 
 // What follows from the definitions.
 mod laws;
