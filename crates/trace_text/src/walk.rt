@@ -56,13 +56,6 @@ impl<'g> Predecessors<'g> {
         })
     }
 
-    /// The graph.
-    pub fn graph(&self) -> &'g Graph
-        ensures { result.now ≡ self.now.graph }
-    {
-        self.graph
-    }
-
     /// From now on the actions are told that come before the action of this number. What was left of another is told no more.
     pub fn walk_to(&mut self, number: u32)
         requires from_one { 0 < number }
