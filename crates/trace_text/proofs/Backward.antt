@@ -42,11 +42,11 @@ module _ (g : GraphOf) (graph : IsGraph g) (actions : ℕ) (count : actions ≡ 
     on : (e : Edge) × Contains g.edges.list e × (e.after ≡ gate) × (e.before ≡ x) → x < gate
     on (e, c, to, from) = let up = upward e c (rw to is_gate) in omega arith
 
-  module _ (y : ℕ) (within : y < g.edges.positions) where
+  module _ (y : ℕ) where
     -- what edges lead to y from
-    pub walk_begun : (cleared found : List Bool) → length found ≡ g.edges.positions → ((x : ℕ) → is_marked cleared x ≡ false)
+    pub walk_begun : y < g.edges.positions → (cleared found : List Bool) → length found ≡ g.edges.positions → ((x : ℕ) → is_marked cleared x ≡ false)
         → ((x : ℕ) → is_marked found x ≡ (is_marked cleared x || is_in_list (slice_index_or rows y []) x)) → GoesBack actions g.edges.list y 0 found
-    walk_begun cleared found size none made =
+    walk_begun within cleared found size none made =
         let enough = graph.positions in
         record {
           lowest = length found;
