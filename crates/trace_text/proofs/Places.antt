@@ -100,8 +100,9 @@ module _ (found : List Bool) where
           ∙ (ap (λ (ks : List ℕ). slice_get ks (length (found_below found to) - 1)) (sym (parts to high)) ∙ (ap (slice_get (members found)) (sym place) ∙ is))
 
       on : Searched from to → ((number ≤ from) × NoneFound found from to) ⊎ ((from < number) × IsLastFound found from to number)
-      on (inl none) = inl (number_below from (length (found_below found to) - 1) number
-      (ap (λ (ks : List ℕ). slice_get ks (length (found_below found to) - 1)) (sym none.same) ∙ here), none)
+      on (inl none) =
+          let there = ap (λ (ks : List ℕ). slice_get ks (length (found_below found to) - 1)) (sym none.same) ∙ here in
+          inl (number_below from (length (found_below found to) - 1) number there, none)
       on (inr (k, last)) =
           let size = ap length last.last ∙ length_push (found_below found (k - 1)) k in
           let read = get_or_from_slice_get (found_below found to) (length (found_below found to) - 1) number 0 here in

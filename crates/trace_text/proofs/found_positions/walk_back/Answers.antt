@@ -26,15 +26,15 @@ loop-gate-init c =
           (omega arith) c.clear.new.found c.find_sources.new.found size c.clear.ensures.none c.find_sources.ensures.found;
     }
 
-pub find_sources-in-Some-requires-clause-position : goal.find_sources-in-Some-requires-clause-position
-find_sources-in-Some-requires-clause-position c =
+pub find_sources-requires-in-Some-clause-position : goal.find_sources-requires-in-Some-clause-position
+find_sources-requires-in-Some-clause-position c =
     let back = c.loop-gate.invariant.back in
     let last = c.in-Some.ensures.last back.lowest back.gates back.within back.are_behind in
     let rows = rows_there c.args.graph.now.edges c.args.sources.now c.requires.sources in
     omega (arith, last.above, last.high, back.within, c.loop-gate.invariant.size)
 
-pub find_sources-in-Some-requires-clause-within : goal.find_sources-in-Some-requires-clause-within
-find_sources-in-Some-requires-clause-within c = λ x among.
+pub find_sources-requires-in-Some-clause-within : goal.find_sources-requires-in-Some-clause-within
+find_sources-requires-in-Some-clause-within c = λ x among.
     let back = c.loop-gate.invariant.back in
     let last = c.in-Some.ensures.last back.lowest back.gates back.within back.are_behind in
     let low = sources_within c.args.graph.now.edges c.args.sources.now c.requires.sources (c.in-Some.gate - 1)

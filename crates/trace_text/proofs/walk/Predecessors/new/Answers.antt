@@ -3,8 +3,8 @@ use Rattle.std.proofs.lemmas.List.{length-replicate}
 use Rattle.cluster_types.specs.declared.graph_edges.Edges.{Edges}
 use Rattle.trace_text.proofs.walk.Predecessors.new.Goals as goal
 
-pub source_rows-sources-requires : goal.source_rows-sources-requires
-source_rows-sources-requires c = rw c.edges-edges.ensures.edges c.edges-edges.ensures.graph.within
+pub source_rows-requires : goal.source_rows-requires
+source_rows-requires c = rw c.edges-edges.ensures.edges c.edges-edges.ensures.graph.within
 
 pub invariant_of-result : goal.invariant_of-result
 invariant_of-result c = record {

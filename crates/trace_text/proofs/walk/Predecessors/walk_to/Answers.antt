@@ -5,9 +5,9 @@ pub invariant_of-self : goal.invariant_of-self
 invariant_of-self c = record {
   graph = c.self.invariant.graph;
   sources = c.self.invariant.sources;
-  size = c.walk_back.ensures.size ∙ c.self.invariant.size;
-  few = c.walk_back.ensures.few;
+  size = c.walk_back-self-inside.ensures.size ∙ c.self.invariant.size;
+  few = c.walk_back-self-inside.ensures.few;
 }
 
 pub returns : goal.returns
-returns c = rw (← c.self.view_is, c.walk_back.ensures.befores) refl
+returns c = rw (← c.self.view_is, c.walk_back-self-inside.ensures.befores) refl
