@@ -1,5 +1,5 @@
 -- What a walk back finds: the actions that lead to its end.
-use Rattle.std.proofs.Common.{arith, ◌≡◌, ◌⊎◌, inl, inr, ◌<◌, ◌≤◌, ◌+◌, ◌-◌, ◌||◌, ℕ, Bool, true, false, List, [], ◌++◌, length, take, slice_index_or, refl, sym, ap, subst, ◌∙◌}
+use Rattle.std.proofs.Common.{arith, ◌≡◌, ◌⊎◌, inl, inr, ◌<◌, ◌≤◌, ◌+◌, ◌-◌, ◌||◌, ℕ, Bool, true, false, List, [], length, take, slice_index_or, refl, sym, ap, subst, ◌∙◌}
 use Rattle.std.specs.Prelude.{Contains}
 use Rattle.std.specs.List.{list_any}
 use Rattle.std.proofs.Math.Bool.{or-false}
@@ -54,7 +54,7 @@ module _ (g : GraphOf) (graph : IsGraph g) (actions : ℕ) (count : actions ≡ 
           within = omega arith;
           are_behind = omega arith;
           marked = rw size (at_first actions g.edges.positions g.edges.list y graph.within upward cleared found none
-          (λ x. made x ∙ ap (λ b. is_marked cleared x || b) (sources_are g.edges rows sources y within x)));
+              (λ x. made x ∙ ap (λ b. is_marked cleared x || b) (sources_are g.edges rows sources y within x)));
         }
 
     -- a gate is gone through

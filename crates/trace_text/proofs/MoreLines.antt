@@ -36,3 +36,12 @@ pub lines_to_come : {Y : Type 0} (text : Y → List ℕ) (now rest all : List Y)
 lines_to_come text now rest all before after is whole =
     ap (λ t. t ++ flat_map text rest) is ∙ append_assoc before (flat_map text now) (flat_map text rest)
     ∙ ap (λ t. before ++ t) (sym (flat_map-append text now rest)) ∙ ap (λ ys. before ++ flat_map text ys) (sym whole)
+
+-- the text of a first line, and of four lists of lines
+pub lines_of_passed : {Y : Type 0} (text : Y → List ℕ) (first : Y) (goals events ends others : List Y)
+    → text first ++ flat_map text goals ++ flat_map text events ++ flat_map text ends ++ flat_map text others
+    ≡ flat_map text ((first ∷ goals ++ events ++ ends) ++ others)
+lines_of_passed text first goals events ends others =
+    sym (flat_map-append text (first ∷ goals ++ events ++ ends) others
+    ∙ ap (λ t. t ++ flat_map text others)
+    (flat_map-append text (first ∷ goals ++ events) ends ∙ ap (λ t. t ++ flat_map text ends) (flat_map-append text (first ∷ goals) events)))

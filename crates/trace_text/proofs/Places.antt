@@ -1,6 +1,6 @@
 -- The places of the numbers that were found, in ascending order.
-use Rattle.std.proofs.Common.{arith, ◌≡◌, ◌≢◌, ◌⊎◌, inl, inr, ◌<◌, ◌≤◌, ◌+◌, ◌-◌, ◌==◌, ◌||◌, ℕ, suc, zero, Bool, true, false, Some, List, [], ◌∷◌, ◌++◌, length, take, drop, set, get_or, slice_get, refl, sym, ap, subst, ◌∙◌}
-use Rattle.std.specs.List.{list_any, range_with_len}
+use Rattle.std.proofs.Common.{arith, ◌≡◌, ◌≢◌, ◌⊎◌, inl, inr, ◌<◌, ◌≤◌, ◌+◌, ◌-◌, ◌==◌, ◌||◌, ℕ, suc, zero, Bool, true, false, Some, List, ◌∷◌, ◌++◌, length, take, drop, set, get_or, slice_get, refl, sym, ap, subst, ◌∙◌}
+use Rattle.std.specs.List.{range_with_len}
 use Rattle.std.proofs.Math.Bool.{or-false, or_assoc}
 use Rattle.std.proofs.lemmas.Bool.{cases_eq, ne_eqb, or_right}
 use Rattle.std.proofs.lemmas.List.{drop_more, get_or_push, get_or-set_same, get_or-set_other, get_or-take, length_push, length-set, length-take-le}
@@ -48,24 +48,30 @@ module _ (found : List Bool) where
   one_more : (from n : ℕ) → from ≤ n → (here : Bool) → is_marked found n ≡ here → Searched from n → Searched from (n + 1)
   one_more from n ge true here before =
       let back : n + 1 - 1 ≡ n = omega arith in
-      inr (n + 1, record {
-        above = omega arith;
-        high = omega arith;
-        is = rw back here;
-        none = λ x low lt. absurd (let f : ⊥ = omega arith in f);
-        last = rw back (sym (with_marked found n (found_below found n) refl here));
-      })
+      inr (
+        n + 1,
+        record {
+          above = omega arith;
+          high = omega arith;
+          is = rw back here;
+          none = λ x low lt. absurd (let f : ⊥ = omega arith in f);
+          last = rw back (sym (with_marked found n (found_below found n) refl here));
+        },
+      )
   one_more from n ge false here (inl before) = inl (record {
     none = none_more from n before.none here;
     same = sym (without found n (found_below found n) refl here) ∙ before.same;
   })
-  one_more from n ge false here (inr (number, before)) = inr (number, record {
-    above = before.above;
-    high = let high = before.high in omega arith;
-    is = before.is;
-    none = none_more number n before.none here;
-    last = sym (without found n (found_below found n) refl here) ∙ before.last;
-  })
+  one_more from n ge false here (inr (number, before)) = inr (
+    number,
+    record {
+      above = before.above;
+      high = let high = before.high in omega arith;
+      is = before.is;
+      none = none_more number n before.none here;
+      last = sym (without found n (found_below found n) refl here) ∙ before.last;
+    },
+  )
 
   searched : (from n : ℕ) → Searched from (from + n)
   searched from zero =

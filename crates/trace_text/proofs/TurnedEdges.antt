@@ -46,5 +46,5 @@ module _ (edges : Edges) (rows : List (List ℕ)) (sources : rows ≡ source_row
     pub sources_within : EndsWithin edges.positions edges.list → (x : ℕ) → Contains (slice_index_or rows y []) x → x < edges.positions
     sources_within ends x among =
         on (by_edge edges.list x y (sym (sources_are x) ∙ passes_by (◌==◌ x) (slice_index_or rows y []) x among (number_itself x))) where
-      on : (e : Edge) × Contains edges.list e × (e.after ≡ y) × (e.before ≡ x) → x < edges.positions
-      on (e, c, to, from) = rw (← from) (ends e c).0
+          on : (e : Edge) × Contains edges.list e × (e.after ≡ y) × (e.before ≡ x) → x < edges.positions
+          on (e, c, to, from) = rw (← from) (ends e c).0

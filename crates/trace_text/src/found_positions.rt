@@ -1,5 +1,5 @@
-//! The positions that a walk back through a graph has found. They are the members of a set, each by one more than its place: the actions by their numbers,
-//! and behind them the gates.
+//! The positions that a walk back through a graph has found. A set has each of them by one more than its place: actions
+//! by their numbers, and gates behind them.
 
 ghost use Rattle.std.specs.Prelude.{◌≡◌, ◌≤◌, ◌<◌, ◌+◌, ◌^◌, ◌||◌, ℕ, [], false, IfSome, MatchOption, Contains, length, slice_index_or, take};
 ghost use Rattle.edges.specs.Sources.{is_in_list};
@@ -12,7 +12,7 @@ use cluster_types::Graph;
 use edges::Rows;
 use listed::NumberSet;
 
-/// The number of the last position that was found, of those from one on and before the last so many.
+/// The number of the last position that was found, but for so many behind it. None where it would stand below `from`.
 fn last_found(found: &NumberSet, from: u32, behind: u32) -> Option<u32>
     ensures last { (to : ℕ) → from ≤ to → to ≤ length found.now → AreBehind found.now to behind
         → MatchOption result (NoneFound found.now from to) (IsLastFound found.now from to) }
@@ -52,10 +52,10 @@ fn find_sources(found: &mut NumberSet, sources: &Rows, position: u32)
     }
 }
 
-/// Finds, in place of what was found, the positions from which the edges lead to the action of this number, directly or through gates alone. How many of
-/// them are actions.
+/// Finds, in place of what was found, the positions from which the edges lead to the action of this number, directly or
+/// through gates alone. How many of them are actions.
 ///
-/// The gates are gone through from the last one on, so that none is gone through twice: what leads to a gate stands below it.
+/// Gates are gone through from the last one on. What leads to a gate stands below it, so none is gone through twice.
 pub fn walk_back(found: &mut NumberSet, sources: &Rows, graph: &Graph, number: u32) -> u32
     requires graph { IsGraph graph.now }
     requires sources { sources.now ≡ source_rows graph.now.edges }

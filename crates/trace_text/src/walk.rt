@@ -11,9 +11,9 @@ use std::marker::Model;
 
 /// Tells which actions of a graph come before one of them, directly or through gates alone.
 ///
-/// Contracts see the graph, and the numbers that are still to be told. It takes no memory once it is made. What comes before an action is found by the
-/// edges that lead to it and to the gates before it alone, and told in ascending order, each number in a time that grows with the logarithm of the
-/// positions.
+/// Contracts see the graph, and the numbers that are still to be told. It takes no memory once it is made. What comes
+/// before an action is found by the edges that lead to it and to the gates before it alone, and told in ascending order,
+/// each number in a time that grows with the logarithm of the positions.
 #[derive(Drop)]
 pub struct Predecessors<'g> {
     graph: &'g Graph,

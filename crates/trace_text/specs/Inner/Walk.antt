@@ -26,7 +26,7 @@ turned_edge e = record { before = e.after; after = e.before }
 abbrev pub source_rows : Edges → List (List ℕ)
 source_rows edges = edge_targets edges.positions (map turned_edge edges.list)
 
--- The positions that a walk has found are a set of numbers, each by one more than its place. So actions have their numbers, and gates come behind.
+-- The positions that a walk has found are a set of numbers, each by one more than its place: actions by their numbers, and gates behind them.
 
 -- the numbers of those that were found below a position
 abbrev pub found_below : List Bool → ℕ → List ℕ
@@ -49,7 +49,7 @@ pub record IsLastFound (found : List Bool) (from to number : ℕ) : Type 0 where
   pub none : (x : ℕ) → number ≤ x → x < to → is_marked found x ≡ false
   pub last : found_below found to ≡ found_below found (number - 1) ++ number ∷ []
 
--- on the way back from y all was found, but for what leads to the gates below some position. So many were found from there on
+-- on the way back from y all was found but what leads to gates below some position, and so many stand from there on
 pub record GoesBack (actions : ℕ) (edges : List Edge) (y behind : ℕ) (found : List Bool) : Type 0 where
   pub lowest : ℕ
   pub gates : actions ≤ lowest

@@ -1,4 +1,4 @@
-use Rattle.std.proofs.Common.{arith, ◌≡◌, ◌<◌, ◌+◌, ◌-◌, ◌||◌, ◌∙◌, true, List, ℕ, length, get_or, take, ap, subst, Contains}
+use Rattle.std.proofs.Common.{arith, ◌+◌, ◌-◌, ◌||◌, ◌∙◌, true, List, ℕ, get_or, ap, subst, Contains}
 use Rattle.std.proofs.lemmas.List.{length-set, take_all}
 use Rattle.std.proofs.lemmas.List.Elements.{Contains-get_or}
 use Rattle.edges.specs.Sources.{is_in_list}

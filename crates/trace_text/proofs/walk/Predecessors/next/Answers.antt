@@ -1,4 +1,4 @@
-use Rattle.std.proofs.Common.{arith, ◌≡◌, ◌+◌, ◌∷◌, [], drop, take, length, refl}
+use Rattle.std.proofs.Common.{arith, ◌≡◌, [], drop, take, refl}
 use Rattle.std.proofs.lemmas.List.{drop_all, length-take-le}
 use Rattle.listed.specs.Sets.{members}
 use Rattle.trace_text.proofs.Places.{next_told}
