@@ -1,5 +1,5 @@
 -- How a transition of a run is closed, and how the run ends in its midst.
-use Rattle.std.proofs.Common.{◌≡◌, ◌⊎◌, inl, inr, ℕ, Bool, true, false, List, [], ◌∷◌, ◌++◌, append-nil, refl, sym, ap, ◌∙◌, subst}
+use Rattle.std.proofs.Common.{arith, ◌≡◌, ◌⊎◌, inl, inr, ℕ, Bool, true, false, List, [], ◌∷◌, ◌++◌, append-nil, refl, sym, ap, ◌∙◌, subst}
 use Rattle.std.specs.Prelude.{Option, Some, None}
 use Rattle.std.specs.List.{flat_map}
 use Rattle.cluster_types.specs.declared.run.RunLine.{RunLine}
@@ -73,7 +73,7 @@ module _ (whole steady : Bool) (k : ℕ) (r now : ExecutorOf) (fresh : r.since �
 
         closed_short : (All : List RunLine → Type 0) (StopThen Stopped : List RunLine → Option RunLine → Type 0)
             → ((lines more : List RunLine) (at : Option RunLine) → First lines → StopThen more at → Stopped (lines ++ more) at) → StopThen [] (Some (closing_line k complete))
-            → (j : Journal) → j ≡ left_of now → EndsStopped All here_set (amid k (transition_in r) []) (sight rest over) (sight left over_now) Stopped j
+            → (j : Journal) → j ≡ left_of now → EndsStopped All here_set (amid k (transition_in r) []) (sight rest over) (sight left over_now) k Stopped j
         closed_short All StopThen Stopped stop stopped j is = record {
           before = amid k (transition_in r) now.since;
           next = closed_at k complete (journal (transition_in r) now.since);
@@ -91,6 +91,7 @@ module _ (whole steady : Bool) (k : ℕ) (r now : ExecutorOf) (fresh : r.since �
           };
           leaves = is ∙ ap (left_with now.since) went.same
               ∙ ap (with_events r.promotions) (at_closed k complete (journal (transition_in r) now.since));
+          few = omega arith;
         }
 
       complete_step : IsComplete now → (w : Bool) (xs : Option (List Answer))
@@ -118,16 +119,16 @@ module _ (whole steady : Bool) (k : ℕ) (r now : ExecutorOf) (fresh : r.since �
       module _ (All : List RunLine → Type 0) (StopThen Stopped : List RunLine → Option RunLine → Type 0)
           (stop : (lines more : List RunLine) (at : Option RunLine) → First lines → StopThen more at → Stopped (lines ++ more) at) where
         pub stops_complete : IsComplete now → StopThen [] (Some (closing_line k true)) → (j : Journal) → j ≡ left_of now
-            → EndsStopped All here_set (amid k (transition_in r) []) (sight rest over) (sight left over_now) Stopped j
+            → EndsStopped All here_set (amid k (transition_in r) []) (sight rest over) (sight left over_now) k Stopped j
         stops_complete e stopped j is = closed_short true (complete_step e) All StopThen Stopped stop stopped j is
 
         pub stops_aborted : (first : Event) → IsAborted now first → StopThen [] (Some (closing_line k false)) → (j : Journal) → j ≡ left_of now
-            → EndsStopped All here_set (amid k (transition_in r) []) (sight rest over) (sight left over_now) Stopped j
+            → EndsStopped All here_set (amid k (transition_in r) []) (sight rest over) (sight left over_now) k Stopped j
         stops_aborted first e stopped j is = closed_short false (aborted_step first e) All StopThen Stopped stop stopped j is
 
       -- the source failed
       pub broken : IsWaiting (transition_in now) now.since → (steady ≡ true → WentAsSaid r now rest left) → (steady ≡ true → over ≡ false) → (j : Journal) → j ≡ left_of now
-          → EndsBroken First here_set (amid k (transition_in r) []) (sight rest over) (sight left over_now) j
+          → EndsBroken First here_set (amid k (transition_in r) []) (sight rest over) (sight left over_now) k j
       broken waiting said not_over j is = record {
         last = amid k (transition_in r) now.since;
         lines = flat_map event_lines now.since;
@@ -137,11 +138,12 @@ module _ (whole steady : Bool) (k : ℕ) (r now : ExecutorOf) (fresh : r.since �
         said = λ always. part_said here_set k r now fresh rest left (said always);
         not_over = not_over;
         leaves = is ∙ ap (left_with now.since) went.same;
+        few = omega arith;
       }
 
   -- an answer came that doesn't apply
   pub cut : (Follows : List RunLine → Type 0) (given : Answer) → WentBeforeSaid whole r now rest left given → AreLinesTold Follows r now → IsCutBy now given → (j : Journal)
-      → j ≡ left_of now → RunEndsCut Follows here_set (amid k (transition_in r) []) (sight rest over) (sight left over_now) j given
+      → j ≡ left_of now → RunEndsCut Follows here_set (amid k (transition_in r) []) (sight rest over) (sight left over_now) k j given
   cut Follows given g told e j is =
       let same : transition_in now ≡ transition_in r = ap transition_in g.went.same in
       let refused : applies_after r.cluster (journal (transition_in r) now.since) (in_flight_by_number (transition_in r) now.since) (count_from_outside (transition_in r) now.since) given ≡ false
@@ -158,11 +160,12 @@ module _ (whole steady : Bool) (k : ℕ) (r now : ExecutorOf) (fresh : r.since �
           refused = λ applies. let f : ⊥ = cc in f;
         };
         leaves = is ∙ ap (left_with now.since) g.went.same;
+        few = omega arith;
       }
 
   -- the watcher stopped at a step
   stops_amid : (All : List RunLine → Type 0) (Stopped : List RunLine → Option RunLine → Type 0) → IsWatcherCutOff Stopped whole r now rest left → (j : Journal) → j ≡ left_of now
-      → EndsStopped All here_set (amid k (transition_in r) []) (sight rest over) (sight left over_now) Stopped j
+      → EndsStopped All here_set (amid k (transition_in r) []) (sight rest over) (sight left over_now) k Stopped j
   stops_amid All Stopped b j is =
       let same : transition_in b.at ≡ transition_in r = ap transition_in b.went.same in
       let since : b.at.since ≡ b.before = rw fresh at b.happened in
@@ -182,11 +185,12 @@ module _ (whole steady : Bool) (k : ℕ) (r now : ExecutorOf) (fresh : r.since �
           stopped = subst (λ (lines : List RunLine). Stopped lines (Some b.line)) (ap (flat_map event_lines) (sym since) ∙ sym (append-nil (flat_map event_lines b.at.since))) b.stopped;
         };
         leaves = is ∙ ap left_of b.last ∙ ap (left_with (b.at.since ++ b.events)) b.went.same;
+        few = omega arith;
       }
 
   -- or as the source was about to be asked
   stops_asking : (All : List RunLine → Type 0) (Stopped : List RunLine → Option RunLine → Type 0) → Went whole r now rest left → IsWatcherCutOffAsking Stopped r now → (j : Journal)
-      → j ≡ left_of now → EndsStoppedAsking All here_set (amid k (transition_in r) []) (sight rest over) (sight left over_now) Stopped j
+      → j ≡ left_of now → EndsStoppedAsking All here_set (amid k (transition_in r) []) (sight rest over) (sight left over_now) k Stopped j
   stops_asking All Stopped went b j is = record {
     last = amid k (transition_in r) now.since;
     lines = flat_map event_lines now.since;
@@ -194,11 +198,12 @@ module _ (whole steady : Bool) (k : ℕ) (r now : ExecutorOf) (fresh : r.since �
     told = part_told here_set k r now fresh (λ lines. Stopped lines None) b.told;
     asking = subst (λ (t : Transition). IsWaiting t now.since) (ap transition_in went.same) b.waiting;
     leaves = is ∙ ap (left_with now.since) went.same;
+    few = omega arith;
   }
 
   pub stops_either : (All : List RunLine → Type 0) (Stopped : List RunLine → Option RunLine → Type 0) → Went whole r now rest left
       → IsWatcherCutOff Stopped whole r now rest left ⊎ IsWatcherCutOffAsking Stopped r now → (j : Journal) → j ≡ left_of now
-      → EndsStopped All here_set (amid k (transition_in r) []) (sight rest over) (sight left over_now) Stopped j
-      ⊎ EndsStoppedAsking All here_set (amid k (transition_in r) []) (sight rest over) (sight left over_now) Stopped j
+      → EndsStopped All here_set (amid k (transition_in r) []) (sight rest over) (sight left over_now) k Stopped j
+      ⊎ EndsStoppedAsking All here_set (amid k (transition_in r) []) (sight rest over) (sight left over_now) k Stopped j
   stops_either All Stopped went (inl b) j is = inl (stops_amid All Stopped b j is)
   stops_either All Stopped went (inr b) j is = inr (stops_asking All Stopped went b j is)

@@ -1,5 +1,5 @@
 -- What came of one part of a run, and then of the next, is what came of both.
-use Rattle.std.proofs.Common.{◌≡◌, inl, inr, true, false, List, [], ◌++◌, append_assoc, sym, subst}
+use Rattle.std.proofs.Common.{◌≡◌, inl, inr, ℕ, true, false, List, [], ◌++◌, append_assoc, sym, subst, arith}
 use Rattle.std.specs.Prelude.{Option, Some, None, Result, Ok, Err}
 use Rattle.lemmas.proofs.Booleans.{fails_too}
 use Rattle.cluster_types.specs.declared.journal.Answer.{Answer}
@@ -8,6 +8,7 @@ use Rattle.cluster_types.specs.declared.run.RunLine.{RunLine}
 use Rattle.cluster_types.specs.Runs.{RunStanding, IsBetween, Runs, RunsOn, here}
 use Rattle.graph_exec.specs.WatcherLines.{StopsAmong}
 use Rattle.graph_exec.proofs.Said.{taken_none, taken_then}
+use Rattle.run_safety.specs.TwoRuns.{transition_number_at}
 use Rattle.run_safety.proofs.SoFar.{runs_joined, runs_once}
 use Rattle.graph_exec.specs.declared.run.stop.ReplayStop.{ReplayStop}
 use Rattle.graph_exec.specs.declared.run.stop.ReplayStop.TheVariants as stop
@@ -24,8 +25,8 @@ module _ (s : Setting) where
     came_nowhere at a = record { lines = []; runs = here at a.rest; told = none; said = λ steady open_still. said_none at a.rest }
 
     -- memory runs out between two transitions
-    pub lacks_memory : (at : RunStanding) (a : Sight) → IsBetween s.cluster s.promotions s.whole at → RunEndsBetween Follows s at a a
-    lacks_memory at a between = record { at = at; lines = []; runs = here at a.rest; told = none; between = between }
+    pub lacks_memory : (at : RunStanding) (a : Sight) → IsBetween s.cluster s.promotions s.whole at → RunEndsBetween Follows s at a a (transition_number_at at)
+    lacks_memory at a between = record { at = at; lines = []; runs = here at a.rest; told = none; between = between; few = omega arith }
 
   pub said_then : (from middle at : RunStanding) (lines more : List RunLine) (rest between left : Option (List Answer)) → IsSaid s from middle lines rest between
       → IsSaid s middle at more between left → IsSaid s from at (lines ++ more) rest left
@@ -67,17 +68,18 @@ module _ (s : Setting) where
             (stop_behind one.lines (lines ++ t.before) (Some t.at) one.told t.stopped);
       }
 
-      pub ends_on : (end : Result Journal (ReplayStop Journal)) → (s.steady ≡ true → a.over ≡ true → b.over ≡ true) → RunEndsAs Then s middle b c StopThen end
-          → RunEndsAs All s from a c StopAll end
-      ends_on (Ok journal) stays w = record {
+      pub ends_on : (number : ℕ) (end : Result Journal (ReplayStop Journal)) → (s.steady ≡ true → a.over ≡ true → b.over ≡ true)
+          → RunEndsAs Then s middle b c number StopThen end → RunEndsAs All s from a c number StopAll end
+      ends_on number (Ok journal) stays w = record {
         last = w.last;
         lines = one.lines ++ w.lines;
         runs = joined w.last c.rest w.lines w.runs;
         told = join one.lines w.lines one.told w.told;
         over = w.over;
         leaves = w.leaves;
+        few = w.few;
       }
-      ends_on (Err (stop.Unexpected journal given)) stays w = record {
+      ends_on number (Err (stop.Unexpected journal given)) stays w = record {
         last = w.last;
         unread = w.unread;
         lines = one.lines ++ w.lines;
@@ -85,8 +87,9 @@ module _ (s : Setting) where
         told = join one.lines w.lines one.told w.told;
         cut = w.cut;
         leaves = w.leaves;
+        few = w.few;
       }
-      ends_on (Err (stop.SourceFault journal)) stays w = record {
+      ends_on number (Err (stop.SourceFault journal)) stays w = record {
         last = w.last;
         lines = one.lines ++ w.lines;
         runs = joined w.last c.rest w.lines w.runs;
@@ -95,8 +98,9 @@ module _ (s : Setting) where
         said = λ steady. said_then from middle w.last one.lines w.lines a.rest b.rest c.rest (one.said steady (w.not_over steady)) (w.said steady);
         not_over = λ steady. fails_too a.over b.over (stays steady) (w.not_over steady);
         leaves = w.leaves;
+        few = w.few;
       }
-      ends_on (Err (stop.Stopped journal)) stays (inl w) = inl (record {
+      ends_on number (Err (stop.Stopped journal)) stays (inl w) = inl (record {
         before = w.before;
         next = w.next;
         middle = w.middle;
@@ -106,22 +110,25 @@ module _ (s : Setting) where
         step = w.step;
         told = stops_on w.lines w.call w.told;
         leaves = w.leaves;
+        few = w.few;
       })
-      ends_on (Err (stop.Stopped journal)) stays (inr w) = inr (record {
+      ends_on number (Err (stop.Stopped journal)) stays (inr w) = inr (record {
         last = w.last;
         lines = one.lines ++ w.lines;
         runs = joined w.last c.rest w.lines w.runs;
         told = stop_behind one.lines w.lines None one.told w.told;
         asking = w.asking;
         leaves = w.leaves;
+        few = w.few;
       })
-      ends_on (Err (stop.Most journal)) stays w = absurd w
-      ends_on (Err stop.NoMemory) stays w = record {
+      ends_on number (Err (stop.Most journal)) stays w = absurd w
+      ends_on number (Err stop.NoMemory) stays w = record {
         at = w.at;
         lines = one.lines ++ w.lines;
         runs = joined w.at c.rest w.lines w.runs;
         told = join one.lines w.lines one.told w.told;
         between = w.between;
+        few = w.few;
       }
 
   -- a step, and the lines of it

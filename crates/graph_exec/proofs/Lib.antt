@@ -36,6 +36,7 @@ pub mod LastsNext
 pub mod Shown
 pub mod Quiet
 pub mod Rests
+pub mod CountedTransitions
 pub mod Whole
 pub mod KeptPlans
 pub mod KeptEnds

@@ -1,5 +1,5 @@
 -- What comes of a question while nothing is to be done.
-use Rattle.std.proofs.Common.{◌≡◌, ℕ, ◌+◌, Bool, false, List, [], ◌∷◌, ◌++◌, refl, sym, ap, ◌∙◌, subst}
+use Rattle.std.proofs.Common.{arith, ◌≡◌, ℕ, ◌+◌, Bool, false, List, [], ◌∷◌, ◌++◌, refl, sym, ap, ◌∙◌, subst}
 use Rattle.std.specs.Prelude.{Option, Some, None, Result, Ok, Err}
 use Rattle.cluster_types.specs.declared.journal.Answer.{Answer}
 use Rattle.cluster_types.specs.declared.journal.Event.{Event}
@@ -36,7 +36,7 @@ module _ (whole steady : Bool) (k : ℕ) (j : KnownJournalOf) (rest : Option (Li
 
     module _ (Follows : List RunLine → Type 0) where
       is_over : Follows [] → Says whole rest None left → (journal : Journal) → journal ≡ plain_of j
-          → EndsWhole Follows here_set (idle k j.events) (sight rest over) (sight left over_now) journal
+          → EndsWhole Follows here_set (idle k j.events) (sight rest over) (sight left over_now) k journal
       is_over none said journal is =
           let same = stays_said whole rest left None refl said in
           record {
@@ -46,10 +46,11 @@ module _ (whole steady : Bool) (k : ℕ) (j : KnownJournalOf) (rest : Option (Li
             told = none;
             over = subst (λ (x : Option (List Answer)). Says whole x None left) (sym same) said;
             leaves = is;
+            few = omega arith;
           }
 
       is_broken : Follows [] → left ≡ rest → over ≡ false → (journal : Journal) → journal ≡ plain_of j
-          → EndsBroken Follows here_set (idle k j.events) (sight rest over) (sight left over_now) journal
+          → EndsBroken Follows here_set (idle k j.events) (sight rest over) (sight left over_now) k journal
       is_broken none same not_over journal is = record {
         last = idle k j.events;
         lines = [];
@@ -60,11 +61,12 @@ module _ (whole steady : Bool) (k : ℕ) (j : KnownJournalOf) (rest : Option (Li
             (said_none here_set (idle k j.events) rest);
         not_over = λ always. not_over;
         leaves = is;
+        few = omega arith;
       }
 
       -- the watcher stops as the source is about to be asked
       pub is_stopped_asking : left ≡ rest → (Stopped : List RunLine → Option RunLine → Type 0) → Stopped [] None → (journal : Journal) → journal ≡ plain_of j
-          → EndsStoppedAsking Follows here_set (idle k j.events) (sight rest over) (sight left over_now) Stopped journal
+          → EndsStoppedAsking Follows here_set (idle k j.events) (sight rest over) (sight left over_now) k Stopped journal
       is_stopped_asking same Stopped stopped journal is = record {
         last = idle k j.events;
         lines = [];
@@ -72,11 +74,12 @@ module _ (whole steady : Bool) (k : ℕ) (j : KnownJournalOf) (rest : Option (Li
         told = stopped;
         asking = tt;
         leaves = is;
+        few = omega arith;
       }
 
       module _ (given : Answer) (said : Says whole rest (Some given) left) where
         is_cut : Follows [] → (back : KnownJournalOf) → IsRefusedIdle j back given → (journal : Journal) → journal ≡ plain_of back
-            → RunEndsCut Follows here_set (idle k j.events) (sight rest over) (sight left over_now) journal given
+            → RunEndsCut Follows here_set (idle k j.events) (sight rest over) (sight left over_now) k journal given
         is_cut none back r journal is = record {
           last = idle k j.events;
           unread = rest;
@@ -85,6 +88,7 @@ module _ (whole steady : Bool) (k : ℕ) (j : KnownJournalOf) (rest : Option (Li
           told = none;
           cut = record { asking = tt; said = said; refused = r.refused };
           leaves = is ∙ ap plain_of r.same;
+          few = omega arith;
         }
 
         module _ (next : KnownJournalOf) (took : TookIdle j next given) where
@@ -108,7 +112,7 @@ module _ (whole steady : Bool) (k : ℕ) (j : KnownJournalOf) (rest : Option (Li
           }
 
           pub is_stopped : (Stopped : List RunLine → Option RunLine → Type 0) → Stopped [] (Some (line.Taken given)) → (journal : Journal) → journal ≡ plain_of next
-              → EndsStopped Follows here_set (idle k j.events) (sight rest over) (sight left over_now) Stopped journal
+              → EndsStopped Follows here_set (idle k j.events) (sight rest over) (sight left over_now) k Stopped journal
           is_stopped Stopped stopped journal is = record {
             before = idle k j.events;
             next = later_at;
@@ -119,17 +123,18 @@ module _ (whole steady : Bool) (k : ℕ) (j : KnownJournalOf) (rest : Option (Li
             step = answers k j.events rest left given said took.applies;
             told = record { before = []; at = line.Taken given; behind = []; parts = refl; stopped = stopped };
             leaves = is ∙ ap plain_of took.goes_on;
+            few = omega arith;
           }
 
       -- no answer came that applies
       pub ends_unanswered : Follows [] → (Stopped : List RunLine → Option RunLine → Type 0) (end : Result Journal (ReplayStop Journal)) → IsUnanswered whole j rest left over end
-          → RunEndsAs Follows here_set (idle k j.events) (sight rest over) (sight left over_now) Stopped end
+          → RunEndsAs Follows here_set (idle k j.events) (sight rest over) (sight left over_now) k Stopped end
       ends_unanswered none Stopped (Ok journal) w = is_over none w.said journal w.leaves
       ends_unanswered none Stopped (Err (stop.Unexpected journal given)) w = is_cut given w.said none w.back w.refused journal w.leaves
       ends_unanswered none Stopped (Err (stop.SourceFault journal)) w = is_broken none w.left_is w.not_over journal w.leaves
       ends_unanswered none Stopped (Err (stop.Stopped journal)) w = absurd w
       ends_unanswered none Stopped (Err (stop.Most journal)) w = absurd w
-      ends_unanswered none Stopped (Err stop.NoMemory) same = record { at = idle k j.events; lines = []; runs = runs_nowhere same; told = none; between = tt }
+      ends_unanswered none Stopped (Err stop.NoMemory) same = record { at = idle k j.events; lines = []; runs = runs_nowhere same; told = none; between = tt; few = omega arith }
 
 -- what came of the question, put together
 module _ (whole : Bool) (j : KnownJournalOf) (rest left : Option (List Answer)) where

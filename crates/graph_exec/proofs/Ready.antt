@@ -1,5 +1,5 @@
 -- A transition that is planned, and what comes of it in its run.
-use Rattle.std.proofs.Common.{◌≡◌, ℕ, Bool, true, List, [], ◌++◌, refl, sym, ap, ◌∙◌, subst}
+use Rattle.std.proofs.Common.{arith, ◌≡◌, ℕ, Bool, true, List, [], ◌++◌, refl, sym, ap, ◌∙◌, subst}
 use Rattle.std.specs.Prelude.{Option, Some, Result}
 use Rattle.cluster_types.specs.declared.cluster.Cluster.{Cluster}
 use Rattle.cluster_types.specs.declared.journal.Answer.{Answer}
@@ -85,7 +85,7 @@ module _ (j : KnownJournalOf) (p : Planned) (ready : IsReady j p) where
     -- and stops
     pub stops_begun : (Stopped : List RunLine → Option RunLine → Type 0) → StopsAmong (λ lines at. Stopped lines (Some at)) (plan_lines j.cluster k p.placed) → (journal : Journal)
         → journal ≡ left_of p.executor
-        → EndsStopped Follows here_set (due k j.events) (sight rest over) (sight rest over) Stopped journal
+        → EndsStopped Follows here_set (due k j.events) (sight rest over) (sight rest over) k Stopped journal
     stops_begun Stopped told journal is = record {
       before = due k j.events;
       next = amid k (transition_in (fresh_on j p.executor.graph)) [];
@@ -96,6 +96,7 @@ module _ (j : KnownJournalOf) (p : Planned) (ready : IsReady j p) where
       step = planned_step here_set k j.events p.placed p.executor.graph carries whole rest;
       told = record { before = told.before; at = told.at; behind = told.behind; parts = told.parts; stopped = told.stopped };
       leaves = is ∙ ap left_of ready.fresh;
+      few = omega arith;
     }
 
 -- a part of a run, and then the next, where the journal is kept with what it tells
@@ -108,11 +109,11 @@ module _ (First Then All : List RunLine → Type 0) (join : (lines more : List R
 
     pub ends_behind : (StopThen StopAll : List RunLine → Option RunLine → Type 0)
         → ((lines more : List RunLine) (at : Option RunLine) → First lines → StopThen more at → StopAll (lines ++ more) at)
-        → (end : Result Journal (ReplayStop Journal)) → (steady ≡ true → old.over ≡ true → now.over ≡ true) → RunEndsAs Then (setting d scores whole steady) at now new StopThen end
-        → RunEndsAs All (setting c promotions whole steady) from old new StopAll end
-    ends_behind StopThen StopAll stop_behind end stays w =
-        ends_on (setting c promotions whole steady) First Then All join from at old now new one StopThen StopAll stop_behind end stays
-        (subst (λ (s : Setting). RunEndsAs Then s at now new StopThen end) same_set w)
+        → (number : ℕ) (end : Result Journal (ReplayStop Journal)) → (steady ≡ true → old.over ≡ true → now.over ≡ true)
+        → RunEndsAs Then (setting d scores whole steady) at now new number StopThen end → RunEndsAs All (setting c promotions whole steady) from old new number StopAll end
+    ends_behind StopThen StopAll stop_behind number end stays w =
+        ends_on (setting c promotions whole steady) First Then All join from at old now new one StopThen StopAll stop_behind number end stays
+        (subst (λ (s : Setting). RunEndsAs Then s at now new number StopThen end) same_set w)
 
     pub comes_behind : (then_at : List Event → RunStanding) (j : KnownJournalOf) → (steady ≡ true → now.over ≡ true → new.over ≡ true)
         → CameTo Then (setting d scores whole steady) at now new then_at j → CameTo All (setting c promotions whole steady) from old new then_at j

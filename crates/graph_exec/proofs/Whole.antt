@@ -1,5 +1,5 @@
 -- A run from its beginning, by how it ended.
-use Rattle.std.proofs.Common.{◌≡◌, inl, inr, ℕ, ◌+◌, Bool, false, List, [], ◌++◌, append-nil, refl, sym, ap, subst}
+use Rattle.std.proofs.Common.{arith, ◌≡◌, ◌≤◌, inl, inr, ℕ, ◌+◌, Bool, false, List, [], ◌++◌, append-nil, refl, sym, ap, subst}
 use Rattle.std.specs.Prelude.{Option, Result, Ok, Err}
 use Rattle.cluster_types.specs.declared.cluster.Cluster.{Cluster}
 use Rattle.cluster_types.specs.declared.journal.Answer.{Answer}
@@ -19,6 +19,7 @@ use Rattle.graph_exec.specs.declared.run.stop.ReplayStop.TheVariants as stop
 use Rattle.graph_exec.specs.Replays.{Setting, Sight, IsBetweenTwo, IsJournalKept, IsTold, OfMade, ReplaysAs, setting}
 use Rattle.graph_exec.specs.RunEnds.{at_most}
 use Rattle.graph_exec.specs.Inner.Turns.{HasComeTo, CameTo, RunEndsAs, journal_back}
+use Rattle.graph_exec.proofs.CountedTransitions.{few_begin, few_begin_on, few_made}
 use Rattle.graph_exec.proofs.Joined.{came_nowhere}
 
 pub asks_still : (c : Cluster) (promotions : List Promotion) (one other : Bool) (at : RunStanding) → IsAsking c promotions one at → IsAsking c promotions other at
@@ -30,22 +31,24 @@ abbrev pub events_in : Journal → List Event
 events_in j = j.events
 
 module _ (Follows : List RunLine → Type 0) (s : Setting) (es : List Event) (a b : Sight) where
-  pub replays : (Stopped : List RunLine → Option RunLine → Type 0) (most : ℕ) (end : Result Journal (ReplayStop Journal)) → RunEndsAs Follows s (due 1 es) a b Stopped end
-      → ReplaysAs Follows Stopped s es a b most end
-  replays Stopped most (Ok journal) w = record {
+  pub replays : (Stopped : List RunLine → Option RunLine → Type 0) (number most : ℕ) → number ≤ most → (end : Result Journal (ReplayStop Journal))
+      → RunEndsAs Follows s (due 1 es) a b number Stopped end → ReplaysAs Follows Stopped s es a b most end
+  replays Stopped number most within (Ok journal) w = record {
     lines = w.lines;
     ended = record {
       run = record { last = w.last; behind = b.rest; steps = w.runs; over = w.over; leaves = ap events_in w.leaves };
       unread = refl;
     };
     told = w.told;
+    few = few_begin s.cluster s.promotions s.whole es a.rest b.rest w.lines number most within w.last w.runs w.few;
   }
-  replays Stopped most (Err (stop.Unexpected journal given)) w = record {
+  replays Stopped number most within (Err (stop.Unexpected journal given)) w = record {
     lines = w.lines;
     ended = record { last = w.last; unread = w.unread; steps = w.runs; cut = w.cut; leaves = ap events_in w.leaves };
     told = w.told;
+    few = few_begin s.cluster s.promotions s.whole es a.rest w.unread w.lines number most within w.last w.runs w.few;
   }
-  replays Stopped most (Err (stop.SourceFault journal)) w = record {
+  replays Stopped number most within (Err (stop.SourceFault journal)) w = record {
     lines = w.lines;
     ended = record {
       run = record { last = w.last; steps = w.runs; asking = w.asking; leaves = ap events_in w.leaves };
@@ -61,8 +64,9 @@ module _ (Follows : List RunLine → Type 0) (s : Setting) (es : List Event) (a 
       };
     };
     told = w.told;
+    few = few_begin s.cluster s.promotions s.whole es a.rest b.rest w.lines number most within w.last w.runs w.few;
   }
-  replays Stopped most (Err (stop.Stopped journal)) (inl w) = inl (record {
+  replays Stopped number most within (Err (stop.Stopped journal)) (inl w) = inl (record {
     lines = w.lines;
     call = w.call;
     closing = [];
@@ -77,21 +81,31 @@ module _ (Follows : List RunLine → Type 0) (s : Setting) (es : List Event) (a 
       leaves = ap events_in w.leaves;
     };
     told = w.told;
+    few = few_begin_on s.cluster s.promotions s.whole es a.rest b.rest w.lines number most within w.before w.next w.middle w.call w.runs w.step w.few;
   })
-  replays Stopped most (Err (stop.Stopped journal)) (inr w) = inr (record {
+  replays Stopped number most within (Err (stop.Stopped journal)) (inr w) = inr (record {
     lines = w.lines;
     run = record { last = w.last; steps = w.runs; asking = w.asking; leaves = ap events_in w.leaves };
     told = w.told;
+    few = few_begin s.cluster s.promotions s.whole es a.rest b.rest w.lines number most within w.last w.runs w.few;
   })
-  replays Stopped most (Err (stop.Most journal)) w = absurd w
-  replays Stopped most (Err stop.NoMemory) w = record { lines = w.lines; at = w.at; run = w.runs; between = w.between; told = w.told }
+  replays Stopped number most within (Err (stop.Most journal)) w = absurd w
+  replays Stopped number most within (Err stop.NoMemory) w = record {
+    lines = w.lines;
+    at = w.at;
+    run = w.runs;
+    between = w.between;
+    told = w.told;
+    few = few_begin s.cluster s.promotions s.whole es a.rest b.rest w.lines number most within w.at w.runs w.few;
+  }
 
   pub up_to : (Stopped : List RunLine → Option RunLine → Type 0) (most : ℕ) (journal : Journal) (left : List Event) → journal.events ≡ left → HasComeTo Follows s (due 1 es) a b (due (most + 1) left)
-      → IsTold Follows Stopped s es a b journal (at_most most)
+      → IsTold Follows Stopped s es a b most journal (at_most most)
   up_to Stopped most journal left is w = record {
     lines = w.lines;
     ended = subst (λ (x : List Event). Runs s.cluster s.promotions s.whole (due 1 es) a.rest w.lines (due (most + 1) x) b.rest) (sym is) w.runs;
     told = w.told;
+    few = few_made s.cluster s.promotions s.whole es a.rest b.rest w.lines most left w.runs;
   }
 
   module _ (safe : IsSafeRun s.cluster s.promotions s.whole es a.rest) where
@@ -105,16 +119,17 @@ module _ (Follows : List RunLine → Type 0) (s : Setting) (es : List Event) (a 
       promotions_stay = ap (λ (j : Journal). j.promotions) is;
     }
 
-    pub kept : (Stopped : List RunLine → Option RunLine → Type 0) (end : Result Journal (ReplayStop Journal)) → RunEndsAs Follows s (due 1 es) a b Stopped end → OfMade (IsJournalKept s.promotions) end
-    kept Stopped (Ok journal) w = kept_at w.last b.rest w.lines w.runs journal w.leaves
-    kept Stopped (Err (stop.Unexpected journal given)) w = kept_at w.last w.unread w.lines w.runs journal w.leaves
-    kept Stopped (Err (stop.SourceFault journal)) w = kept_at w.last b.rest w.lines w.runs journal w.leaves
-    kept Stopped (Err (stop.Stopped journal)) (inr w) = kept_at w.last b.rest w.lines w.runs journal w.leaves
-    kept Stopped (Err (stop.Stopped journal)) (inl w) =
+    pub kept : (Stopped : List RunLine → Option RunLine → Type 0) (number : ℕ) (end : Result Journal (ReplayStop Journal)) → RunEndsAs Follows s (due 1 es) a b number Stopped end
+        → OfMade (IsJournalKept s.promotions) end
+    kept Stopped number (Ok journal) w = kept_at w.last b.rest w.lines w.runs journal w.leaves
+    kept Stopped number (Err (stop.Unexpected journal given)) w = kept_at w.last w.unread w.lines w.runs journal w.leaves
+    kept Stopped number (Err (stop.SourceFault journal)) w = kept_at w.last b.rest w.lines w.runs journal w.leaves
+    kept Stopped number (Err (stop.Stopped journal)) (inr w) = kept_at w.last b.rest w.lines w.runs journal w.leaves
+    kept Stopped number (Err (stop.Stopped journal)) (inl w) =
         kept_at w.next b.rest (w.lines ++ w.call)
         (runs_more s.cluster s.promotions s.whole (due 1 es) w.before w.next a.rest w.middle b.rest w.lines w.call w.runs w.step) journal w.leaves
-    kept Stopped (Err (stop.Most journal)) w = absurd w
-    kept Stopped (Err stop.NoMemory) w = tt
+    kept Stopped number (Err (stop.Most journal)) w = absurd w
+    kept Stopped number (Err stop.NoMemory) w = tt
 
     pub kept_due : (k : ℕ) (journal : Journal) (left : List Event) → journal.events ≡ left → journal.promotions ≡ s.promotions → HasComeTo Follows s (due 1 es) a b (due k left)
         → IsJournalKept s.promotions journal
@@ -124,9 +139,9 @@ module _ (Follows : List RunLine → Type 0) (s : Setting) (es : List Event) (a 
     }
 
 -- no memory is left before the first transition
-pub nothing_made : (Follows : List RunLine → Type 0) (Stopped : List RunLine → Option RunLine → Type 0) → Follows [] → (s : Setting) (es : List Event) (a : Sight)
-    → IsBetweenTwo Follows Stopped s es a a
-nothing_made Follows Stopped none s es a = record { lines = []; at = due 1 es; run = here (due 1 es) a.rest; between = tt; told = none }
+pub nothing_made : (Follows : List RunLine → Type 0) (Stopped : List RunLine → Option RunLine → Type 0) → Follows [] → (s : Setting) (es : List Event) (a : Sight) (most : ℕ)
+    → IsBetweenTwo Follows Stopped s es a a most
+nothing_made Follows Stopped none s es a most = record { lines = []; at = due 1 es; run = here (due 1 es) a.rest; between = tt; told = none; few = omega arith }
 
 -- the run begins
 pub starts : (Follows : List RunLine → Type 0) → Follows [] → (c : Cluster) (promotions : List Promotion) (whole steady : Bool) (es : List Event) (a : Sight) (j : KnownJournalOf)

@@ -1,6 +1,6 @@
 -- What a replay makes: a run from a journal on, of which a watcher is told the lines (Pacemaker Administration, "Transitions"; when a run ends is a
 -- rule of this project).
-use Rattle.std.specs.Prelude.{◌≡◌, ◌⊎◌, ◌++◌, ℕ, Bool, Option, Some, None, Result, Ok, Err, List}
+use Rattle.std.specs.Prelude.{◌≡◌, ◌≤◌, ◌⊎◌, ◌++◌, ℕ, Bool, Option, Some, None, Result, Ok, Err, List}
 use Rattle.cluster_types.specs.declared.cluster.Cluster.{Cluster}
 use Rattle.cluster_types.specs.declared.journal.Action.{Action}
 use Rattle.cluster_types.specs.declared.journal.Answer.{Answer}
@@ -12,7 +12,7 @@ use Rattle.cluster_types.specs.Journals.{Orderly}
 use Rattle.cluster_types.specs.Runs.{RunStanding, due, Runs, IsBetween, IsRunSoFar, IsStoppedRun}
 use Rattle.graph_exec.specs.LastWords.{LastWord, none_failed, word_is}
 use Rattle.graph_exec.specs.RunEnds.{EndOfRun, EndsSo, at_most, in_failure, unexpected, with_all}
-use Rattle.graph_exec.specs.WatcherLines.{RunView, StopsAmong, view_between}
+use Rattle.graph_exec.specs.WatcherLines.{RunView, StopsAmong, transitions_in, view_between}
 use Rattle.graph_exec.specs.declared.transition.outcomes.Next.TheVariants as next
 use Rattle.graph_exec.specs.declared.transition.watcher.Heard.{Heard}
 use Rattle.graph_exec.specs.declared.transition.watcher.Heard.TheVariants as heard
@@ -38,13 +38,15 @@ pub record Sight : Type 0 where
 abbrev pub sight : Option (List Answer) → Bool → Sight
 sight rest over = record { rest = rest; over = over }
 
--- what the watcher has come to, of some lines: it went on by them, or stopped behind them, at a line or as the source was about to be asked
-module _ (Follows : List RunLine → Type 0) (Stopped : List RunLine → Option RunLine → Type 0) (s : Setting) (es : List Event) (old new : Sight) where
+-- what the watcher has come to, of some lines: it went on by them, or stopped behind them, at a line or as the source was about to be asked. So many transitions
+-- were allowed, and no more have begun, however the run ended
+module _ (Follows : List RunLine → Type 0) (Stopped : List RunLine → Option RunLine → Type 0) (s : Setting) (es : List Event) (old new : Sight) (most : ℕ) where
   -- the run ended so, and each of its lines was told
   pub record IsTold (journal : Journal) (end : EndOfRun) : Type 0 where
     pub lines : List RunLine
     pub ended : EndsSo s.cluster s.promotions s.whole s.steady es old.rest new.rest lines journal.events end
     pub told : Follows lines
+    pub few : transitions_in lines ≤ most
 
   -- the run was made up to where the watcher stopped: at a line of its last call, each line before which was told
   pub record IsStopped (journal : Journal) : Type 0 where
@@ -53,12 +55,14 @@ module _ (Follows : List RunLine → Type 0) (Stopped : List RunLine → Option 
     pub closing : List RunLine
     pub run : IsStoppedRun s.cluster s.promotions s.whole es old.rest lines call closing journal.events new.rest
     pub told : StopsAmong (λ before at. Stopped (lines ++ before) (Some at)) call
+    pub few : transitions_in (lines ++ call) ≤ most
 
   -- the run was made up to where an answer is asked for, and the watcher stopped before that: each line up to there was told
   pub record IsStoppedAsking (journal : Journal) : Type 0 where
     pub lines : List RunLine
     pub run : IsRunSoFar s.cluster s.promotions s.whole es old.rest lines journal.events new.rest
     pub told : Stopped lines None
+    pub few : transitions_in lines ≤ most
 
   -- the run was made up to where it is in no transition, and each line up to there was told
   pub record IsBetweenTwo : Type 0 where
@@ -67,15 +71,16 @@ module _ (Follows : List RunLine → Type 0) (Stopped : List RunLine → Option 
     pub run : Runs s.cluster s.promotions s.whole (due 1 es) old.rest lines at new.rest
     pub between : IsBetween s.cluster s.promotions s.whole at
     pub told : Follows lines
+    pub few : transitions_in lines ≤ most
 
-  -- what was made of the journal, by how the run ended, where so many transitions were allowed
-  abbrev pub ReplaysAs : ℕ → Result Journal (ReplayStop Journal) → Type 0
-  ReplaysAs most (Ok journal) = IsTold journal with_all
-  ReplaysAs most (Err (stop.Unexpected journal given)) = IsTold journal (unexpected given)
-  ReplaysAs most (Err (stop.SourceFault journal)) = IsTold journal in_failure
-  ReplaysAs most (Err (stop.Stopped journal)) = IsStopped journal ⊎ IsStoppedAsking journal
-  ReplaysAs most (Err (stop.Most journal)) = IsTold journal (at_most most)
-  ReplaysAs most (Err stop.NoMemory) = IsBetweenTwo
+  -- what was made of the journal, by how the run ended
+  abbrev pub ReplaysAs : Result Journal (ReplayStop Journal) → Type 0
+  ReplaysAs (Ok journal) = IsTold journal with_all
+  ReplaysAs (Err (stop.Unexpected journal given)) = IsTold journal (unexpected given)
+  ReplaysAs (Err (stop.SourceFault journal)) = IsTold journal in_failure
+  ReplaysAs (Err (stop.Stopped journal)) = IsStopped journal ⊎ IsStoppedAsking journal
+  ReplaysAs (Err (stop.Most journal)) = IsTold journal (at_most most)
+  ReplaysAs (Err stop.NoMemory) = IsBetweenTwo
 
 -- the fact holds of what is handed back: the journal, or the run that is kept. Out of memory, nothing is
 abbrev pub OfMade : {T : Type 0} → (T → Type 0) → Result T (ReplayStop T) → Type 0

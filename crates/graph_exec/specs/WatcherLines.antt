@@ -1,5 +1,5 @@
 -- What a watcher is told of a run, line by line, and what it is shown of it (rule of this project).
-use Rattle.std.specs.Prelude.{◌≡◌, ℕ, Bool, true, false, Option, Some, None, List, ◌∷◌, ◌++◌, slice_get}
+use Rattle.std.specs.Prelude.{◌≡◌, ℕ, Bool, true, false, Option, Some, None, List, ◌∷◌, ◌++◌, count_by, slice_get}
 use Rattle.std.specs.Option.{option_map_or}
 use Rattle.cluster_types.specs.declared.cluster.Cluster.{Cluster}
 use Rattle.cluster_types.specs.declared.journal.Action.{Action}
@@ -22,6 +22,15 @@ plan_lines c number placed = line.Transition number ∷ target_lines c placed.pi
 abbrev pub closing_line : ℕ → Bool → RunLine
 closing_line number true = line.Complete number
 closing_line number false = line.Aborted number
+
+-- a transition begins with this line
+abbrev pub begins_transition : RunLine → Bool
+begins_transition (line.Transition number) = true
+begins_transition _ = false
+
+-- how many transitions begin with these lines
+abbrev pub transitions_in : List RunLine → ℕ
+transitions_in lines = count_by begins_transition lines
 
 -- a watcher that stops in the midst of some lines stops at one of them, and was told those before it
 pub record StopsAmong (Stopped : List RunLine → RunLine → Type 0) (lines : List RunLine) : Type 0 where

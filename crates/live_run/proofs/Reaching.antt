@@ -77,7 +77,7 @@ module _ (c : Cluster) (journal : Journal) (reading : Reading) where
     reaches how = IfSome before (λ left. Reaches c journal reading left after old new how)
 
   -- what the writer has come to says what was written
-  module _ (Follows : List RunLine → Type 0) (Stopped : List RunLine → Option RunLine → Type 0) where
+  module _ (Follows : List RunLine → Type 0) (Stopped : List RunLine → Option RunLine → Type 0) (most : ℕ) where
     abbrev Tells : Option (List ℕ) → Option (List ℕ) → List ℕ → Type 0
     Tells old new held = (lines : List RunLine) → Follows lines → GoesOut (run_lines_text c lines) [] held old new
 
@@ -116,7 +116,7 @@ module _ (c : Cluster) (journal : Journal) (reading : Reading) where
         }
 
     done_reached : (before after old middle new : Option (List ℕ)) (held : List ℕ) (t : SourceState) (was is : Bool) (j : Journal) → Tells old middle held
-        → replays.IsTold Follows Stopped (along before after old middle t was is) journal.events (sight (rest_of (told_by start before)) was) (sight (rest_of (told_by t after)) is) j with_all
+        → replays.IsTold Follows Stopped (along before after old middle t was is) journal.events (sight (rest_of (told_by start before)) was) (sight (rest_of (told_by t after)) is) most j with_all
         → SourceFollows start t before after → (how : LiveEnd) → EndsDone held how middle new → reaches before after old new t was is how
     done_reached None after old middle new held t was is j tells w f how e = tt
     done_reached (Some left) after old middle new held t was is j tells w f how e = by how e
@@ -146,7 +146,7 @@ module _ (c : Cluster) (journal : Journal) (reading : Reading) where
 
     -- behind a run that is cut
     unexpected_reached : (before after old middle new : Option (List ℕ)) (held : List ℕ) (t : SourceState) (was is : Bool) (j : Journal) (a : Answer) → Tells old middle held
-        → replays.IsTold Follows Stopped (along before after old middle t was is) journal.events (sight (rest_of (told_by start before)) was) (sight (rest_of (told_by t after)) is) j (unexpected a)
+        → replays.IsTold Follows Stopped (along before after old middle t was is) journal.events (sight (rest_of (told_by start before)) was) (sight (rest_of (told_by t after)) is) most j (unexpected a)
         → SourceFollows start t before after → (how : LiveEnd) → EndsCut held (run_line c (line.Unexpected t.line)) how middle new → reaches before after old new t was is how
     unexpected_reached None after old middle new held t was is j a tells w f how e = tt
     unexpected_reached (Some left) after old middle new held t was is j a tells w f how e =
@@ -181,7 +181,7 @@ module _ (c : Cluster) (journal : Journal) (reading : Reading) where
 
     -- the source failed
     broken_reached : (left : List ℕ) (after old middle new : Option (List ℕ)) (held : List ℕ) (t : SourceState) (was is : Bool) (j : Journal) → Tells old middle held → held ≡ []
-        → replays.IsTold Follows Stopped (along (Some left) after old middle t was is) journal.events (sight (rest_of (told_by start (Some left))) was) (sight (rest_of (told_by t after)) is) j in_failure
+        → replays.IsTold Follows Stopped (along (Some left) after old middle t was is) journal.events (sight (rest_of (told_by start (Some left))) was) (sight (rest_of (told_by t after)) is) most j in_failure
         → HasBroken start t (Some left) after → new ≡ middle → Reaches c journal reading left after old new end.ReadFault
     broken_reached left after old middle new held t was is j tells none w h same = on after refl h.told h.read.cut
       where
@@ -309,7 +309,7 @@ module _ (c : Cluster) (journal : Journal) (reading : Reading) where
     stopped_by left after old middle new held printed added given why.TooLarge all stop more lines first said ends bytes taken near how put last = absurd put
 
     stopped_reached : (left : List ℕ) (after old middle new : Option (List ℕ)) (held : List ℕ) (t : SourceState) (was is : Bool) (j : Journal) → Tells old middle held
-        → replays.IsTold Follows Stopped (along (Some left) after old middle t was is) journal.events (sight (rest_of (told_by start (Some left))) was) (sight (rest_of (told_by t after)) is) j in_failure
+        → replays.IsTold Follows Stopped (along (Some left) after old middle t was is) journal.events (sight (rest_of (told_by start (Some left))) was) (sight (rest_of (told_by t after)) is) most j in_failure
         → HasStopped start t (Some left) after → (how : LiveEnd) → EndsLines held (stop_of t) how middle new → Reaches c journal reading left after old new how
     stopped_reached left after old middle new held t was is j tells w h how e = on after refl h.told
       where
@@ -333,7 +333,7 @@ module _ (c : Cluster) (journal : Journal) (reading : Reading) where
             (subst (λ (z : Option LineStop). EndsLines held z how middle new) h.stop e) h.last
 
     failed_reached : (before after old middle new : Option (List ℕ)) (held : List ℕ) (t : SourceState) (was is : Bool) (j : Journal) → Tells old middle held → (stop_of t ≡ Some why.ReadFault → held ≡ [])
-        → replays.IsTold Follows Stopped (along before after old middle t was is) journal.events (sight (rest_of (told_by start before)) was) (sight (rest_of (told_by t after)) is) j in_failure
+        → replays.IsTold Follows Stopped (along before after old middle t was is) journal.events (sight (rest_of (told_by start before)) was) (sight (rest_of (told_by t after)) is) most j in_failure
         → HasBroken start t before after ⊎ HasStopped start t before after → (how : LiveEnd) → EndsLines held (stop_of t) how middle new → reaches before after old new t was is how
     failed_reached None after old middle new held t was is j tells quiet w f how e = tt
     failed_reached (Some left) after old middle new held t was is j tells quiet w (inl h) how e =
@@ -352,8 +352,8 @@ module _ (c : Cluster) (journal : Journal) (reading : Reading) where
     -- the writer stopped the run
     cut_off_reached : (before after old new : Option (List ℕ)) (t : SourceState) (was is : Bool) (j : Journal)
         → ((lines : List RunLine) (at : Option RunLine) → Stopped lines at → CutsShort (run_lines_text c lines) (last_text c at) old new)
-        → replays.IsStopped Follows Stopped (along before after old new t was is) journal.events (sight (rest_of (told_by start before)) was) (sight (rest_of (told_by t after)) is) j
-        ⊎ replays.IsStoppedAsking Follows Stopped (along before after old new t was is) journal.events (sight (rest_of (told_by start before)) was) (sight (rest_of (told_by t after)) is) j
+        → replays.IsStopped Follows Stopped (along before after old new t was is) journal.events (sight (rest_of (told_by start before)) was) (sight (rest_of (told_by t after)) is) most j
+        ⊎ replays.IsStoppedAsking Follows Stopped (along before after old new t was is) journal.events (sight (rest_of (told_by start before)) was) (sight (rest_of (told_by t after)) is) most j
         → SourceFollows start t before after → reaches before after old new t was is end.WriteFault
     cut_off_reached None after old new t was is j stops w f = tt
     cut_off_reached (Some left) after old new t was is j stops (inr w) f =
@@ -395,7 +395,7 @@ module _ (c : Cluster) (journal : Journal) (reading : Reading) where
 
     -- memory ran out
     between_reached : (before after old middle new : Option (List ℕ)) (held : List ℕ) (t : SourceState) (was is : Bool) → Tells old middle held
-        → replays.IsBetweenTwo Follows Stopped (along before after old middle t was is) journal.events (sight (rest_of (told_by start before)) was) (sight (rest_of (told_by t after)) is)
+        → replays.IsBetweenTwo Follows Stopped (along before after old middle t was is) journal.events (sight (rest_of (told_by start before)) was) (sight (rest_of (told_by t after)) is) most
         → SourceFollows start t before after → (how : LiveEnd) → EndsWithoutMemory held how middle new → reaches before after old new t was is how
     between_reached None after old middle new held t was is tells w f how e = tt
     between_reached (Some left) after old middle new held t was is tells w f how e = by how e
@@ -471,7 +471,7 @@ module _ (c : Cluster) (journal : Journal) (reading : Reading) (after old new : 
 
 -- the same, of a source that stands at the beginning
 module _ (c : Cluster) (journal : Journal) (reading : Reading) (s t : SourceState) (d : Cluster) (fresh : s ≡ starting c (moment_of journal.events) reading) (names : d ≡ c)
-    (before after old middle new : Option (List ℕ)) (held : List ℕ) (was is : Bool) (j : Journal) (Follows : List RunLine → Type 0) (Stopped : List RunLine → Option RunLine → Type 0) where
+    (before after old middle new : Option (List ℕ)) (held : List ℕ) (was is : Bool) (j : Journal) (Follows : List RunLine → Type 0) (Stopped : List RunLine → Option RunLine → Type 0) (most : ℕ) where
   abbrev pub from : replays.Setting
   from = setting c journal.promotions (whole_of (told_by s before)) true
 
@@ -481,29 +481,29 @@ module _ (c : Cluster) (journal : Journal) (reading : Reading) (s t : SourceStat
   tells_so : TellsBy → (lines : List RunLine) → Follows lines → GoesOut (run_lines_text c lines) [] held old middle
   tells_so tells lines told = subst (λ (x : Cluster). GoesOut (run_lines_text x lines) [] held old middle) names (tells lines told)
 
-  pub done_from : TellsBy → replays.IsTold Follows Stopped from journal.events (sight (rest_of (told_by s before)) was) (sight (rest_of (told_by t after)) is) j with_all → SourceFollows s t before after
+  pub done_from : TellsBy → replays.IsTold Follows Stopped from journal.events (sight (rest_of (told_by s before)) was) (sight (rest_of (told_by t after)) is) most j with_all → SourceFollows s t before after
       → (how : LiveEnd) → EndsDone held how middle new → IfSome before (λ left. Reaches c journal reading left after old new how)
-  done_from tells w f how e = done_reached c journal reading Follows Stopped before after old middle new held t was is j (tells_so tells) (rw fresh at w) (rw fresh at f) how e
+  done_from tells w f how e = done_reached c journal reading Follows Stopped most before after old middle new held t was is j (tells_so tells) (rw fresh at w) (rw fresh at f) how e
 
-  pub unexpected_from : (a : Answer) → TellsBy → replays.IsTold Follows Stopped from journal.events (sight (rest_of (told_by s before)) was) (sight (rest_of (told_by t after)) is) j (unexpected a) → SourceFollows s t before after
+  pub unexpected_from : (a : Answer) → TellsBy → replays.IsTold Follows Stopped from journal.events (sight (rest_of (told_by s before)) was) (sight (rest_of (told_by t after)) is) most j (unexpected a) → SourceFollows s t before after
       → (how : LiveEnd) → EndsCut held (run_line d (line.Unexpected t.line)) how middle new → IfSome before (λ left. Reaches c journal reading left after old new how)
-  unexpected_from a tells w f how e = unexpected_reached c journal reading Follows Stopped before after old middle new held t was is j a (tells_so tells) (rw fresh at w) (rw fresh at f) how (subst (λ (x : Cluster). EndsCut held (run_line x (line.Unexpected t.line)) how middle new) names e)
+  unexpected_from a tells w f how e = unexpected_reached c journal reading Follows Stopped most before after old middle new held t was is j a (tells_so tells) (rw fresh at w) (rw fresh at f) how (subst (λ (x : Cluster). EndsCut held (run_line x (line.Unexpected t.line)) how middle new) names e)
 
-  pub failed_from : TellsBy → (stop_of t ≡ Some why.ReadFault → held ≡ []) → replays.IsTold Follows Stopped from journal.events (sight (rest_of (told_by s before)) was) (sight (rest_of (told_by t after)) is) j in_failure
+  pub failed_from : TellsBy → (stop_of t ≡ Some why.ReadFault → held ≡ []) → replays.IsTold Follows Stopped from journal.events (sight (rest_of (told_by s before)) was) (sight (rest_of (told_by t after)) is) most j in_failure
       → HasBroken s t before after ⊎ HasStopped s t before after → (how : LiveEnd) → EndsLines held (stop_of t) how middle new → IfSome before (λ left. Reaches c journal reading left after old new how)
-  failed_from tells quiet w f how e = failed_reached c journal reading Follows Stopped before after old middle new held t was is j (tells_so tells) quiet (rw fresh at w) (rw fresh at f) how e
+  failed_from tells quiet w f how e = failed_reached c journal reading Follows Stopped most before after old middle new held t was is j (tells_so tells) quiet (rw fresh at w) (rw fresh at f) how e
 
   pub cut_off_from : ((lines : List RunLine) (at : Option RunLine) → Stopped lines at → CutsShort (run_lines_text d lines) (last_text d at) old new)
-      → replays.IsStopped Follows Stopped from journal.events (sight (rest_of (told_by s before)) was) (sight (rest_of (told_by t after)) is) j
-      ⊎ replays.IsStoppedAsking Follows Stopped from journal.events (sight (rest_of (told_by s before)) was) (sight (rest_of (told_by t after)) is) j → SourceFollows s t before after
+      → replays.IsStopped Follows Stopped from journal.events (sight (rest_of (told_by s before)) was) (sight (rest_of (told_by t after)) is) most j
+      ⊎ replays.IsStoppedAsking Follows Stopped from journal.events (sight (rest_of (told_by s before)) was) (sight (rest_of (told_by t after)) is) most j → SourceFollows s t before after
       → IfSome before (λ left. Reaches c journal reading left after old new end.WriteFault)
   cut_off_from stops w f =
-      cut_off_reached c journal reading Follows Stopped before after old new t was is j
+      cut_off_reached c journal reading Follows Stopped most before after old new t was is j
       (λ lines at told. subst (λ (x : Cluster). CutsShort (run_lines_text x lines) (last_text x at) old new) names (stops lines at told)) (rw fresh at w) (rw fresh at f)
 
-  pub between_from : TellsBy → replays.IsBetweenTwo Follows Stopped from journal.events (sight (rest_of (told_by s before)) was) (sight (rest_of (told_by t after)) is) → SourceFollows s t before after
+  pub between_from : TellsBy → replays.IsBetweenTwo Follows Stopped from journal.events (sight (rest_of (told_by s before)) was) (sight (rest_of (told_by t after)) is) most → SourceFollows s t before after
       → (how : LiveEnd) → EndsWithoutMemory held how middle new → IfSome before (λ left. Reaches c journal reading left after old new how)
-  between_from tells w f how e = between_reached c journal reading Follows Stopped before after old middle new held t was is (tells_so tells) (rw fresh at w) (rw fresh at f) how e
+  between_from tells w f how e = between_reached c journal reading Follows Stopped most before after old middle new held t was is (tells_so tells) (rw fresh at w) (rw fresh at f) how e
 
 pub failed_kind : (exact : Bool) (v u : SourceView) → HasQuestionFailed exact v u → HasBroken v.state u.state v.left u.left ⊎ HasStopped v.state u.state v.left u.left
 failed_kind exact v u (by_source h failed) = inl h

@@ -51,10 +51,10 @@ module _ (c : Cluster) (journal : Journal) (lines : List RunTextLine) (after : �
   number_there : (told : List RunLine) → PassesLines start now told → line_number_at now.lines.now now.place after ≡ line_number_at lines now.place after
   number_there told p = ap (λ ls. line_number_at ls now.place after) (p.lines_stay ∙ written)
 
-  module _ (steady over over_now : Bool) (answers : List Answer) (are : answers ≡ answers_of_lines (said lines)) (rest : Option (List Answer)) (left : Journal)
+  module _ (steady over over_now : Bool) (answers : List Answer) (are : answers ≡ answers_of_lines (said lines)) (rest : Option (List Answer)) (most : ℕ) (left : Journal)
       (Stopped : List RunLine → Option RunLine → Type 0) (v : Verdict) where
     -- it is told the whole run
-    pub whole_found : IsTold (PassesLines start now) Stopped (setting c journal.promotions true steady) journal.events (sight (Some answers) over) (sight rest over_now) left with_all
+    pub whole_found : IsTold (PassesLines start now) Stopped (setting c journal.promotions true steady) journal.events (sight (Some answers) over) (sight rest over_now) most left with_all
         → (now.place ≡ length now.lines.now → v ≡ Yes)
         → (now.place < length now.lines.now → v ≡ No (line_number_at now.lines.now now.place after) clause.Answer)
         → Judges c journal lines after v
@@ -91,7 +91,7 @@ module _ (c : Cluster) (journal : Journal) (lines : List RunTextLine) (after : �
 
     -- the run is cut
     pub cut_found : (given : Answer)
-        → IsTold (PassesLines start now) Stopped (setting c journal.promotions true steady) journal.events (sight (Some answers) over) (sight rest over_now) left (unexpected given)
+        → IsTold (PassesLines start now) Stopped (setting c journal.promotions true steady) journal.events (sight (Some answers) over) (sight rest over_now) most left (unexpected given)
         → v ≡ No (line_number_at now.lines.now now.place after) clause.Answer → Judges c journal lines after v
     cut_found given w is_no =
         rw is_no (record {
@@ -107,9 +107,9 @@ module _ (c : Cluster) (journal : Journal) (lines : List RunTextLine) (after : �
         })
 
   -- it has stopped
-  module _ (steady over over_now : Bool) (answers : List Answer) (are : answers ≡ answers_of_lines (said lines)) (rest : Option (List Answer)) (left : Journal)
+  module _ (steady over over_now : Bool) (answers : List Answer) (are : answers ≡ answers_of_lines (said lines)) (rest : Option (List Answer)) (most : ℕ) (left : Journal)
       (Follows : List RunLine → Type 0) (v : Verdict)
-      (w : IsStopped Follows (HasSaidStop start now) (setting c journal.promotions true steady) journal.events (sight (Some answers) over) (sight rest over_now) left) where
+      (w : IsStopped Follows (HasSaidStop start now) (setting c journal.promotions true steady) journal.events (sight (Some answers) over) (sight rest over_now) most left) where
     due_kept : now.due ≡ Some (clause_of w.told.at)
     due_kept = w.told.stopped.due_is
 
@@ -143,10 +143,10 @@ module _ (c : Cluster) (journal : Journal) (lines : List RunTextLine) (after : �
         })
 
   -- it stops at a line alone
-  module _ (steady over over_now : Bool) (answers : List Answer) (are : answers ≡ answers_of_lines (said lines)) (rest : Option (List Answer)) (left : Journal)
+  module _ (steady over over_now : Bool) (answers : List Answer) (are : answers ≡ answers_of_lines (said lines)) (rest : Option (List Answer)) (most : ℕ) (left : Journal)
       (Follows : List RunLine → Type 0) (v : Verdict) where
-    pub other_found : IsStopped Follows (HasSaidStop start now) (setting c journal.promotions true steady) journal.events (sight (Some answers) over) (sight rest over_now) left
-        ⊎ IsStoppedAsking Follows (HasSaidStop start now) (setting c journal.promotions true steady) journal.events (sight (Some answers) over) (sight rest over_now) left
+    pub other_found : IsStopped Follows (HasSaidStop start now) (setting c journal.promotions true steady) journal.events (sight (Some answers) over) (sight rest over_now) most left
+        ⊎ IsStoppedAsking Follows (HasSaidStop start now) (setting c journal.promotions true steady) journal.events (sight (Some answers) over) (sight rest over_now) most left
         → ((kind : Clause) → now.due ≡ Some kind → v ≡ No (line_number_at now.lines.now now.place after) kind) → Judges c journal lines after v
-    other_found (inl w) is_no = stopped_found steady over over_now answers are rest left Follows v w is_no
+    other_found (inl w) is_no = stopped_found steady over over_now answers are rest most left Follows v w is_no
     other_found (inr w) is_no = absurd w.told

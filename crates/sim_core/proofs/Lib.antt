@@ -13,6 +13,8 @@ pub mod Promised
 pub mod SafeTexts
 pub mod Tallied
 pub mod OneSummary
+pub mod OneReport
+pub mod OneOutput
 pub mod Comments
 pub mod ReadsAgain
 -- An audit.

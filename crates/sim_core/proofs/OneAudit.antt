@@ -1,15 +1,18 @@
--- An input gets one status with the word `audit`.
-use Rattle.std.proofs.Common.{◌≡◌, ℕ, List, map, refl, sym, subst}
+-- An input gets one status and one text with the word `audit`.
+use Rattle.std.proofs.Common.{◌≡◌, ℕ, List, refl, sym, ap, subst, ◌∙◌}
 use Rattle.cluster_types.specs.declared.cluster.Cluster.{Cluster}
 use Rattle.cluster_types.specs.declared.journal.Journal.{Journal}
 use Rattle.cluster_types.specs.declared.run.RunLine.{RunLine}
 use Rattle.input_reading.specs.declared.input.trace.Trace.{Trace}
-use Rattle.input_reading.proofs.OneReading.{not_both_of_a_trace, one_trace}
+use Rattle.input_reading.specs.declared.run.text.RunTextLine.{RunTextLine}
+use Rattle.input_reading.specs.Causes.{refusal_text}
+use Rattle.input_reading.proofs.OneReading.{not_both_of_a_trace, one_trace, one_trace_fault}
 use Rattle.sim_core.specs.declared.verdict.Clause.{Clause}
-use Rattle.sim_core.specs.LawfulRuns.{IsFaultyClause, IsLawfulRun, said}
+use Rattle.sim_core.specs.LawfulRuns.{IsFaultyClause, IsFaultyLine, IsLawfulRun, line_number_at, said}
 use Rattle.sim_core.specs.declared.status.Status.{Status}
 use Rattle.sim_core.specs.declared.status.Status.TheVariants.{Done, NotLawful, Refused}
-use Rattle.sim_core.specs.Audit.{IsAuditOutput, IsLawfulTrace, IsTraceRefusal, IsUnlawfulTrace}
+use Rattle.sim_core.specs.Audit.{IsAuditOutput, IsLawfulTrace, IsTraceRefusal, IsUnlawfulTrace, unlawful_text}
+use Rattle.sim_core.proofs.OneFault.{one_fault}
 
 -- a run with a line that isn't the due one isn't lawful
 abbrev pub AreExcluded : Type 0
@@ -44,3 +47,31 @@ module _ (excluded : AreExcluded) (input : List ℕ) where
   one_audit text more NotLawful _ a b = absurd b
   one_audit text more Refused _ a b = absurd b
   one_audit text more _ other a b = absurd a
+
+-- the first line at fault has one number
+one_line : (c : Cluster) (journal : Journal) (lines : List RunTextLine) (after line other : ℕ) (kind sort : Clause) → IsFaultyLine c journal lines after line kind
+    → IsFaultyLine c journal lines after other sort → (line ≡ other) × (kind ≡ sort)
+one_line c journal lines after line other kind sort a b =
+    let same = one_fault c journal (said lines) a.place b.place kind sort a.fault b.fault in
+    (a.number_is ∙ (ap (λ n. line_number_at lines n after) same.0 ∙ sym b.number_is), same.1)
+
+-- and each status has one text
+module _ (input text more : List ℕ) where
+  one_unlawful : IsUnlawfulTrace input text → IsUnlawfulTrace input more → text ≡ more
+  one_unlawful a b =
+      let same : a.whole ≡ b.whole = one_trace input a.whole b.whole a.reads b.reads in
+      let fault : IsFaultyLine b.whole.head.cluster b.whole.head.journal b.whole.run.lines b.whole.after a.line a.clause
+      = subst (λ (t : Trace). IsFaultyLine t.head.cluster t.head.journal t.run.lines t.after a.line a.clause) same a.fault in
+      let one = one_line b.whole.head.cluster b.whole.head.journal b.whole.run.lines b.whole.after a.line b.line a.clause b.clause fault b.fault in
+      a.printed ∙ (ap (λ n. unlawful_text n a.clause) one.0 ∙ (ap (unlawful_text b.line) one.1 ∙ sym b.printed))
+
+  one_refusal : IsTraceRefusal input text → IsTraceRefusal input more → text ≡ more
+  one_refusal a b =
+      let same = one_trace_fault input a.line b.line a.why b.why a.fault b.fault in
+      a.printed ∙ (ap (λ n. refusal_text n a.why) same.0 ∙ (ap (refusal_text b.line) same.1 ∙ sym b.printed))
+
+  pub one_audit_text : (status : Status) → IsAuditOutput input status text → IsAuditOutput input status more → text ≡ more
+  one_audit_text Done a b = a.printed ∙ sym b.printed
+  one_audit_text NotLawful a b = one_unlawful a b
+  one_audit_text Refused a b = one_refusal a b
+  one_audit_text _ a b = absurd a

@@ -1,4 +1,4 @@
--- An input gets one status with the word `replay`.
+-- An input gets one status and one text with the word `replay`.
 use Rattle.std.proofs.Common.{◌≡◌, inl, inr, ℕ, List, Ok, Err, refl, sym, ◌∙◌, ap, subst}
 use Rattle.cluster_types.specs.declared.cluster.Cluster.{Cluster}
 use Rattle.cluster_types.specs.declared.journal.Journal.{Journal}
@@ -12,6 +12,7 @@ use Rattle.input_reading.specs.declared.input.cause.InputCause.{InputCause}
 use Rattle.input_reading.specs.declared.input.reading.Head.{Head}
 use Rattle.sim_core.specs.declared.status.Status.{Status}
 use Rattle.sim_core.specs.declared.status.Status.TheVariants.{Done, Refused, TooLarge, Unexpected}
+use Rattle.input_reading.specs.Causes.{refusal_text}
 use Rattle.input_reading.specs.Reading.{lone_head_of}
 use Rattle.sim_core.specs.Replay.{IsHeadRead, IsHeadFault, IsHeadRefusal, IsHeadTooLarge, IsReplayOutput, IsTextOfRun, coming_behind, head_in, words_refused, head_refused}
 
@@ -66,14 +67,29 @@ module _ (input : List ℕ) where
   faulty_not_too_large line why (head_refused other n r m cause is says) large =
       let same : heads.taken other n r ≡ heads.too_large = sym is ∙ large in absurd cc
 
+  -- a head has one fault
+  pub one_head_fault : (line other : ℕ) (why cause : InputCause) → IsHeadFault input line why → IsHeadFault input other cause → (line ≡ other) × (why ≡ cause)
+  one_head_fault _ _ _ _ (words_refused line why is) (words_refused other cause also) =
+      let same : heads.refused line why ≡ heads.refused other cause = sym is ∙ also in (cc, cc)
+  one_head_fault _ _ _ _ (words_refused line why is) (head_refused bytes next room other cause also says) =
+      let same : heads.refused line why ≡ heads.taken bytes next room = sym is ∙ also in
+      let wrong : ⊥ = cc in absurd wrong
+  one_head_fault _ _ _ _ (head_refused bytes next room line why is says) (words_refused other cause also) =
+      let same : heads.taken bytes next room ≡ heads.refused other cause = sym is ∙ also in
+      let wrong : ⊥ = cc in absurd wrong
+  one_head_fault _ _ _ _ (head_refused bytes next room line why is says) (head_refused more n r other cause also said) =
+      let taken : heads.taken bytes next room ≡ heads.taken more n r = sym is ∙ also in
+      let same : bytes ≡ more = cc in
+      let fault = sym says ∙ (ap lone_head_of same ∙ said) in (cc, cc)
+
 module _ (one_end : OneEnd) (input : List ℕ) where
-  -- two runs that follow from a head
+  -- two runs that follow from a head have one end and one text
   one_run : (one other : LiveEnd) (text also : List ℕ) → IsTextOfRun (λ c journal coming. ends.EndGets c journal coming one) input text
-      → IsTextOfRun (λ c journal coming. ends.EndGets c journal coming other) input also → one ≡ other
+      → IsTextOfRun (λ c journal coming. ends.EndGets c journal coming other) input also → (one ≡ other) × (text ≡ also)
   one_run one other text also a b =
       let same = same_head input a.bytes b.bytes a.head b.head a.next b.next a.room b.room a.begun b.begun in
-      (one_end b.head.cluster b.head.journal (coming_behind input b.bytes b.head b.next b.room) one other text also
-      (carried input (λ c journal coming. ends.EndGets c journal coming one text) a.bytes b.bytes a.head b.head a.next b.next a.room b.room same a.says) b.says).0
+      one_end b.head.cluster b.head.journal (coming_behind input b.bytes b.head b.next b.room) one other text also
+      (carried input (λ c journal coming. ends.EndGets c journal coming one text) a.bytes b.bytes a.head b.head a.next b.next a.room b.room same a.says) b.says
 
   refusal_or_run : {Says : Cluster → Journal → Coming → List ℕ → Type 0} (text also : List ℕ) → IsHeadRefusal input text → ¬ IsTextOfRun Says input also
   refusal_or_run text also a b = no_fault input b.bytes b.head b.next b.room a.line a.why b.begun a.fault
@@ -86,29 +102,29 @@ module _ (one_end : OneEnd) (input : List ℕ) where
 
   -- each pair of statuses
   done_cut : (text also : List ℕ) → IsReplayOutput input Done text → ¬ IsReplayOutput input Unexpected also
-  done_cut text also a b = let e : end.Done ≡ end.Unexpected = one_run end.Done end.Unexpected text also a b in absurd cc
+  done_cut text also a b = let e : end.Done ≡ end.Unexpected = (one_run end.Done end.Unexpected text also a b).0 in absurd cc
 
   done_refused : (text also : List ℕ) → IsReplayOutput input Done text → ¬ IsReplayOutput input Refused also
   done_refused text also a (inl b) = refusal_or_run also text b a
-  done_refused text also a (inr b) = let e : end.Done ≡ end.Refused = one_run end.Done end.Refused text also a b in absurd cc
+  done_refused text also a (inr b) = let e : end.Done ≡ end.Refused = (one_run end.Done end.Refused text also a b).0 in absurd cc
 
   done_large : (text also : List ℕ) → IsReplayOutput input Done text → ¬ IsReplayOutput input TooLarge also
   done_large text also a (inl b) = large_or_run also text b a
-  done_large text also a (inr b) = let e : end.Done ≡ end.TooLarge = one_run end.Done end.TooLarge text also a b in absurd cc
+  done_large text also a (inr b) = let e : end.Done ≡ end.TooLarge = (one_run end.Done end.TooLarge text also a b).0 in absurd cc
 
   cut_refused : (text also : List ℕ) → IsReplayOutput input Unexpected text → ¬ IsReplayOutput input Refused also
   cut_refused text also a (inl b) = refusal_or_run also text b a
-  cut_refused text also a (inr b) = let e : end.Unexpected ≡ end.Refused = one_run end.Unexpected end.Refused text also a b in absurd cc
+  cut_refused text also a (inr b) = let e : end.Unexpected ≡ end.Refused = (one_run end.Unexpected end.Refused text also a b).0 in absurd cc
 
   cut_large : (text also : List ℕ) → IsReplayOutput input Unexpected text → ¬ IsReplayOutput input TooLarge also
   cut_large text also a (inl b) = large_or_run also text b a
-  cut_large text also a (inr b) = let e : end.Unexpected ≡ end.TooLarge = one_run end.Unexpected end.TooLarge text also a b in absurd cc
+  cut_large text also a (inr b) = let e : end.Unexpected ≡ end.TooLarge = (one_run end.Unexpected end.TooLarge text also a b).0 in absurd cc
 
   refused_large : (text also : List ℕ) → IsReplayOutput input Refused text → ¬ IsReplayOutput input TooLarge also
   refused_large text also (inl a) (inl b) = refusal_or_large text also a b
   refused_large text also (inl a) (inr b) = refusal_or_run text also a b
   refused_large text also (inr a) (inl b) = large_or_run also text b a
-  refused_large text also (inr a) (inr b) = let e : end.Refused ≡ end.TooLarge = one_run end.Refused end.TooLarge text also a b in absurd cc
+  refused_large text also (inr a) (inr b) = let e : end.Refused ≡ end.TooLarge = (one_run end.Refused end.TooLarge text also a b).0 in absurd cc
 
   pub one_replay : (text more : List ℕ) (status other : Status) → IsReplayOutput input status text → IsReplayOutput input other more → status ≡ other
   one_replay text more Done Done a b = refl
@@ -132,3 +148,28 @@ module _ (one_end : OneEnd) (input : List ℕ) where
   one_replay text more Refused _ a b = absurd b
   one_replay text more TooLarge _ a b = absurd b
   one_replay text more _ other a b = absurd a
+
+  -- and each status has one text
+  one_refusal : (text also : List ℕ) → IsHeadRefusal input text → IsHeadRefusal input also → text ≡ also
+  one_refusal text also a b =
+      let same = one_head_fault input a.line b.line a.why b.why a.fault b.fault in
+      a.printed ∙ (ap (λ n. refusal_text n a.why) same.0 ∙ (ap (refusal_text b.line) same.1 ∙ sym b.printed))
+
+  one_refused : (text also : List ℕ) → IsReplayOutput input Refused text → IsReplayOutput input Refused also → text ≡ also
+  one_refused text also (inl a) (inl b) = one_refusal text also a b
+  one_refused text also (inl a) (inr b) = absurd (refusal_or_run text also a b)
+  one_refused text also (inr a) (inl b) = absurd (refusal_or_run also text b a)
+  one_refused text also (inr a) (inr b) = (one_run end.Refused end.Refused text also a b).1
+
+  one_large : (text also : List ℕ) → IsReplayOutput input TooLarge text → IsReplayOutput input TooLarge also → text ≡ also
+  one_large text also (inl a) (inl b) = a.printed ∙ sym b.printed
+  one_large text also (inl a) (inr b) = absurd (large_or_run text also a b)
+  one_large text also (inr a) (inl b) = absurd (large_or_run also text b a)
+  one_large text also (inr a) (inr b) = (one_run end.TooLarge end.TooLarge text also a b).1
+
+  pub one_replay_text : (text more : List ℕ) (status : Status) → IsReplayOutput input status text → IsReplayOutput input status more → text ≡ more
+  one_replay_text text more Done a b = (one_run end.Done end.Done text more a b).1
+  one_replay_text text more Unexpected a b = (one_run end.Unexpected end.Unexpected text more a b).1
+  one_replay_text text more Refused a b = one_refused text more a b
+  one_replay_text text more TooLarge a b = one_large text more a b
+  one_replay_text text more _ a b = absurd a

@@ -1,7 +1,7 @@
 //! What the words that read a whole input share: it is read to its end, and then the text is written that the word gives it.
 
 ghost use Rattle.std.specs.Prelude.{◌≡◌, ℕ, ◌+◌, ◌≤◌, ◌<◌, true, false, List, length, IfOk, IfSome};
-ghost use Rattle.cluster_io.specs.Streams.{Bears, TakesCount};
+ghost use Rattle.cluster_io.specs.Streams.{Bears, TakesAtMost, TakesCount};
 ghost use Rattle.sim_core.specs.declared.status.Status.{Status as StatusOf};
 ghost use Rattle.sim_core.specs.Answers.{IsEarly, MayAnswer, SaysOf};
 ghost use Rattle.sim_core.specs.Inner.Outcomes.{IsOutcome};
@@ -38,6 +38,7 @@ pub(crate) fn with_input<I: InputWord, S: Source, W: Sink>(
         (λ input. SaysOf whole (I.gets word.now) input (S.left src.new) (W.written out.old) (W.written out.new) result) }
     ensures status { MayAnswer true whole (I.gets word.now) result }
     ensures early { IsEarly result → out.new ≡ out.old }
+    ensures taken { TakesAtMost (most_bytes + 1) (S.left src.old) (S.left src.new) }
     ensures too_large { result ≡ Status.TooLarge
         → TakesCount (most_bytes + 1) (S.left src.old) (S.left src.new) }
     ensures nothing_of_too_large { IfSome (S.left src.old)

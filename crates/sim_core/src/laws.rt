@@ -16,6 +16,7 @@ ghost use Rattle.live_run.specs.declared.line_stop.LineStop.TheVariants.{ReadFau
 ghost use Rattle.live_run.specs.declared.live_end.LiveEnd.{LiveEnd as LiveEndOf};
 ghost use Rattle.sim_core.specs.CheckedAgain.{IsReadAgain};
 ghost use Rattle.sim_core.specs.Check.{check_text};
+ghost use Rattle.sim_core.specs.Commands.{Gets};
 ghost use Rattle.sim_core.specs.GenSummary.{IsSummaryText};
 ghost use Rattle.sim_core.specs.Headline.{IsSafeOutput};
 ghost use Rattle.sim_core.specs.Replay.{IsReplayOutput};
@@ -23,6 +24,13 @@ ghost use Rattle.sim_core.specs.LineByLine.{ComesLineByLine, HasPlainRest, HasRe
 ghost use Rattle.sim_core.specs.SafeTexts.{IsSummaryOfSafeRun, IsTextOfSafeWorld};
 ghost use Rattle.sim_core.specs.World.{IsWorldOf};
 ghost use Rattle.sim_core.specs.declared.status.Status.{Status as StatusOf};
+ghost use Rattle.sim_core.specs.declared.words.Command.{Command as CommandOf};
+
+/// With each word an input gets at most one exit status and one text.
+pub fn outputs_are_unique()
+    ensures { (word : CommandOf) (input text other : List ℕ) (status also : StatusOf) → Gets word input status text → Gets word input also other
+        → (status ≡ also) × (text ≡ other) }
+{}
 
 /// What `check` writes of an input is read as the same statements and the same cluster, where none of its lines is longer than a line may be, and
 /// `check` writes the same text of it.

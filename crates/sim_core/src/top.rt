@@ -1,6 +1,6 @@
 ghost use Rattle.std.specs.Prelude.{◌≡◌, ◌↔◌, ◌+◌, ◌<◌, false, true, Some, None, IfSome, length, map};
 ghost use Rattle.std.specs.String.{string_bytes};
-ghost use Rattle.cluster_io.specs.Streams.{Bears, Rose, TakesCount};
+ghost use Rattle.cluster_io.specs.Streams.{Bears, Rose, TakesAtMost, TakesCount};
 ghost use Rattle.sim_core.specs.Answers.{WordAnswers, IsCompleteAnswer, IsEarly, IsStatusOf, ReadsLive, ReadsNothing, ReadsSomething, ReadsWhole, reads_some};
 ghost use Rattle.input_reading.specs.Reading.{most_bytes};
 ghost use Rattle.sim_core.specs.Headline.{WritesASafeRun};
@@ -34,6 +34,7 @@ fn carry_out<S: Source, W: Sink>(alloc: Global, word: Command, src: &mut S, out:
     ensures status { IsStatusOf word result }
     ensures reads_nothing { intake word ≡ nothing → src.new ≡ src.old }
     ensures early { intake word ≡ whole → IsEarly result → out.new ≡ out.old }
+    ensures taken { intake word ≡ whole → TakesAtMost (most_bytes + 1) (S.left src.old) (S.left src.new) }
     ensures too_large { intake word ≡ whole → result ≡ Status.TooLarge
         → TakesCount (most_bytes + 1) (S.left src.old) (S.left src.new) }
     ensures nothing_of_too_large { intake word ≡ whole → IfSome (S.left src.old)
@@ -80,8 +81,10 @@ pub fn run<S: Source, W: Sink>(alloc: Global, words: &[String], src: &mut S, out
     ensures status { IfSome (command_of (map string_bytes words.now)) (λ word. IsStatusOf word result) }
     ensures reads_nothing { ReadsNothing (command_of (map string_bytes words.now)) → src.new ≡ src.old }
 
-    // An input that isn't read to its end within its size gives no text.
+    // An input that isn't read to its end within its size gives no text. Whatever the status, one byte past that size is the last that is read.
     ensures early { ReadsWhole (command_of (map string_bytes words.now)) → IsEarly result → out.new ≡ out.old }
+    ensures taken { ReadsWhole (command_of (map string_bytes words.now))
+        → TakesAtMost (most_bytes + 1) (S.left src.old) (S.left src.new) }
     ensures too_large { ReadsWhole (command_of (map string_bytes words.now)) → result ≡ Status.TooLarge
         → TakesCount (most_bytes + 1) (S.left src.old) (S.left src.new) }
     ensures nothing_of_too_large { ReadsWhole (command_of (map string_bytes words.now))

@@ -16,5 +16,4 @@ pub mod Lived
 pub mod FirstEvents
 pub mod OneLife
 pub mod Together
-pub mod Transitions
 pub mod OneEnd

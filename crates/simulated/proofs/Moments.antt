@@ -151,7 +151,7 @@ module _ (c : Cluster) (number : ℕ) (first : List Event) where
       let none : more ≡ [] = nil_from_length more (omega arith) in
       found xs (first_world c first) (subst (λ l. Lives c number first l (first_world c first)) (is ∙ (ap (λ m. xs ++ m) none ∙ append-nil xs)) at_first)
   lived _ _ (an_action_begins es w k a life) xs more is front moment =
-      back es (Begin k a ∷ []) xs more (after_begin c w a) (grown es w life) (one_batch (Begin k a ∷ []) (omega arith)) moment is (starts es w k a life)
+      back es (Begin k a ∷ []) xs more (after_begin c w a) (grown es w life) (one_batch (Begin k a ∷ []) (omega arith)) moment is (an_action_begins es w k a life)
       (λ rest e. lived es w life xs rest e front moment)
   lived _ _ (leaves es w flight node life i busy e) xs more is front moment =
       back es (added_by c es flight (answer.Lost node)) xs more (after_leaving c (turned c number w) node) (grown es w life) (batch_of c es flight (answer.Lost node)) moment

@@ -14,6 +14,7 @@ use Rattle.cluster_types.specs.Plans.{transition_of}
 use Rattle.cluster_types.specs.Runs.{RunStanding, due, amid, idle, RunsOn, plans, answers, Runs, here, one_more, IsBetween, journal_at}
 use Rattle.cluster_types.specs.Steps.{answer_events, idling}
 use Rattle.cluster_types.specs.Texts.{run_line, run_lines}
+use Rattle.graph_exec.proofs.CountedTransitions.{next_number, passed_counted, runs_counted}
 use Rattle.run_safety.proofs.Along.{journals_grow}
 use Rattle.run_safety.proofs.PlansAreOne.{plans_one}
 use Rattle.run_safety.proofs.Rests.{none_flies}
@@ -24,7 +25,6 @@ use Rattle.simulated.specs.WorldTexts.{IsAtEnd, IsLived, IsWorldText, ending, mo
 use Rattle.simulated.specs.LivesOn.{LivesOn}
 use Rattle.simulated.proofs.OneLife.{from_first, stands_one}
 use Rattle.simulated.proofs.Together.{no_answer, together}
-use Rattle.simulated.proofs.Transitions.{next_number, passed_counted, runs_counted}
 
 module _ (c : Cluster) (promotions : List Promotion) (number : ℕ) (first : List Event) (none : in_flight_by_begin first ≡ []) where
   -- a run has come here
@@ -37,7 +37,7 @@ module _ (c : Cluster) (promotions : List Promotion) (number : ℕ) (first : Lis
   record IsLast (at : RunStanding) : Type 0 where
     ended : Bool
     is : IsAtEnd ended at
-    few : next_number c at ≤ most_transitions + 1
+    few : next_number at ≤ most_transitions + 1
 
   rests : (at : RunStanding) (rest : Option (List Answer)) → HasCome at rest → IsBetween c promotions true at → in_flight_by_begin (journal_at at) ≡ []
   rests at rest come = none_flies c promotions true first at come.from rest come.lines none come.runs

@@ -1,109 +1,110 @@
 -- What a walk back finds: the actions that lead to its end.
-use Rattle.std.proofs.Common.{arith, ◌≡◌, ◌≢◌, ◌⊎◌, inl, inr, ◌<◌, ◌≤◌, ◌==◌, ◌||◌, ◌&&◌, not, ℕ, Bool, true, false, List, refl, sym, ◌∙◌}
+use Rattle.std.proofs.Common.{arith, ◌≡◌, ◌⊎◌, inl, inr, ◌<◌, ◌≤◌, ◌+◌, ◌-◌, ◌||◌, ℕ, Bool, true, false, List, [], length, take, slice_index_or, refl, sym, ap, subst, ◌∙◌}
 use Rattle.std.specs.Prelude.{Contains}
 use Rattle.std.specs.List.{list_any}
-use Rattle.std.proofs.lemmas.Bool.{cases_eq, ne_eqb, or_cases, or_left, or_right}
-use Rattle.lemmas.proofs.Booleans.{sooner}
+use Rattle.std.proofs.Math.Bool.{or-false}
+use Rattle.std.proofs.lemmas.Bool.{cases_lt, false_from_ne_true}
+use Rattle.std.proofs.lemmas.List.{length_push, length-append, take_at}
+use Rattle.lemmas.proofs.Ranges.{filter-alike}
 use Rattle.edges.specs.declared.edge.Edge.{Edge}
-use Rattle.cluster_types.specs.Graphs.{LeadUpward, LeadsByGates, direct, through}
-use Rattle.edges.specs.Loops.{EndsWithin}
-use Rattle.cluster_types.specs.Inner.Walks.{joins}
-use Rattle.cluster_types.proofs.Walks.{by_edge, joined}
-use Rattle.trace_text.specs.Inner.Backward.{IsOnTheWay, LeadsToFound}
+use Rattle.edges.specs.Sources.{is_in_list}
+use Rattle.cluster_types.specs.Graphs.{GraphOf, IsGraph, LeadUpward}
+use Rattle.cluster_types.specs.Inner.Walks.{AreMarked, joins}
+use Rattle.cluster_types.proofs.Walks.{are_befores, at_first, by_edge, one_gate_more}
+use Rattle.listed.specs.Flags.{is_marked}
+use Rattle.listed.specs.Sets.{is_member, members}
+use Rattle.listed.proofs.Blocks.{block}
+use Rattle.trace_text.specs.Inner.Walk.{GoesBack, IsLastFound, NoneFound, befores, found_below, source_rows}
+use Rattle.trace_text.proofs.Places.{parts}
+use Rattle.trace_text.proofs.TurnedEdges.{sources_are}
 
--- the last edge of a way to y
-record LastEdge (actions : ℕ) (edges : List Edge) (x y : ℕ) : Type 0 where
-  edge : Edge
-  one_of : Contains edges edge
-  to : edge.after ≡ y
-  from : (edge.before ≡ x) ⊎ ((actions ≤ edge.before) × LeadsByGates actions edges x edge.before)
+-- where none was found below some position, nothing is to be done there
+skipped : (actions : ℕ) (edges : List Edge) (y low high : ℕ) (found : List Bool) → AreMarked actions edges y high found
+    → ((x : ℕ) → low ≤ x → x < high → is_marked found x ≡ false) → AreMarked actions edges y low found
+skipped actions edges y low high found made none = record {
+  leading = made.leading;
+  direct = made.direct;
+  through = λ e c gate above h. on e c gate above h (cases_lt e.after high);
+}
+  where
+    on : (e : Edge) → Contains edges e → actions ≤ e.after → low ≤ e.after → is_marked found e.after ≡ true → (e.after < high) ⊎ (high ≤ e.after)
+        → is_marked found e.before ≡ true
+    on e c gate above h (inl lt) = let gone = none e.after above lt in cc
+    on e c gate above h (inr ge) = made.through e c gate ge h
 
-last_edge : (actions : ℕ) (edges : List Edge) (x y : ℕ) → LeadsByGates actions edges x y → LastEdge actions edges x y
-last_edge actions edges _ _ (direct e c) = record { edge = e; one_of = c; to = refl; from = inl refl }
-last_edge actions edges _ _ (through e y c gate rest) = on (last_edge actions edges e.after y rest) where
-  on : LastEdge actions edges e.after y → LastEdge actions edges e.before y
-  on last = record { edge = last.edge; one_of = last.one_of; to = last.to; from = behind last.from } where
-    behind : (last.edge.before ≡ e.after) ⊎ ((actions ≤ last.edge.before) × LeadsByGates actions edges e.after last.edge.before)
-        → (last.edge.before ≡ e.before) ⊎ ((actions ≤ last.edge.before) × LeadsByGates actions edges e.before last.edge.before)
-    behind (inl same) = inr (rw same gate, rw same (direct e c))
-    behind (inr (is_gate, leads)) = inr (is_gate, through e last.edge.before c gate leads)
+module _ (g : GraphOf) (graph : IsGraph g) (actions : ℕ) (count : actions ≡ length g.actions) (rows : List (List ℕ)) (sources : rows ≡ source_rows g.edges) where
+  upward : LeadUpward actions g.edges.list
+  upward = subst (λ n. LeadUpward n g.edges.list) (sym count) graph.gates_upward
 
-module _ (actions positions : ℕ) (edges : List Edge) (ends : EndsWithin positions edges) (y : ℕ) where
-  -- what edges lead to y from
-  pub on_the_way_first : (has : ℕ → Bool) → ((x : ℕ) → x < positions → has x ≡ list_any (joins x y) edges) → IsOnTheWay actions positions edges y has
-  on_the_way_first has made = record {
-    leading = λ x lt h. straight x (by_edge edges x y (sym (made x lt) ∙ h));
-    reached = λ x lt leads. ends_at x (last_edge actions edges x y leads);
-  }
-    where
-      straight : (x : ℕ) → (e : Edge) × Contains edges e × (e.after ≡ y) × (e.before ≡ x) → LeadsByGates actions edges x y
-      straight x (e, c, to, from) = rw (← to, ← from) (direct e c)
+  -- the edges to a gate come from below it
+  source_below : (x gate : ℕ) → actions ≤ gate → list_any (joins x gate) g.edges.list ≡ true → x < gate
+  source_below x gate is_gate h = on (by_edge g.edges.list x gate h) where
+    on : (e : Edge) × Contains g.edges.list e × (e.after ≡ gate) × (e.before ≡ x) → x < gate
+    on (e, c, to, from) = let up = upward e c (rw to is_gate) in omega arith
 
-      found : (e : Edge) → Contains edges e → e.after ≡ y → has e.before ≡ true
-      found e c to = made e.before (ends e c).0 ∙ joined edges e y c to
+  module _ (y : ℕ) where
+    -- what edges lead to y from
+    pub walk_begun : y < g.edges.positions → (cleared found : List Bool) → length found ≡ g.edges.positions → ((x : ℕ) → is_marked cleared x ≡ false)
+        → ((x : ℕ) → is_marked found x ≡ (is_marked cleared x || is_in_list (slice_index_or rows y []) x)) → GoesBack actions g.edges.list y 0 found
+    walk_begun within cleared found size none made =
+        let enough = graph.positions in
+        record {
+          lowest = length found;
+          gates = omega arith;
+          within = omega arith;
+          are_behind = omega arith;
+          marked = rw size (at_first actions g.edges.positions g.edges.list y graph.within upward cleared found none
+              (λ x. made x ∙ ap (λ b. is_marked cleared x || b) (sources_are g.edges rows sources y within x)));
+        }
 
-      ends_at : (x : ℕ) → LastEdge actions edges x y → (has x ≡ true) ⊎ LeadsToFound actions positions edges has x
-      ends_at x last = on last.from where
-        on : (last.edge.before ≡ x) ⊎ ((actions ≤ last.edge.before) × LeadsByGates actions edges x last.edge.before)
-            → (has x ≡ true) ⊎ LeadsToFound actions positions edges has x
-        on (inl same) = inl (rw same at (found last.edge last.one_of last.to))
-        on (inr (gate, leads)) =
-            inr (record { gate = last.edge.before; is_gate = gate; within = (ends last.edge last.one_of).0; is = found last.edge last.one_of last.to; leads = leads })
+    -- a gate is gone through
+    module _ (behind gate : ℕ) (old new : List Bool) (back : GoesBack actions g.edges.list y behind old) (last : IsLastFound old actions back.lowest gate)
+        (old_size : length old ≡ g.edges.positions) (new_size : length new ≡ g.edges.positions)
+        (found : (x : ℕ) → is_marked new x ≡ (is_marked old x || is_in_list (slice_index_or rows (gate - 1) []) x)) where
+      is_gate : actions ≤ gate - 1
+      is_gate = let above = last.above in omega arith
 
-  -- a gate that was found is gone through
-  module _ (old new : ℕ → Bool) (gate : ℕ) (is_gate : actions ≤ gate) (within : gate < positions) (is : old gate ≡ true)
-      (made : (x : ℕ) → x < positions → new x ≡ (old x && not (x == gate) || list_any (joins x gate) edges)) (way : IsOnTheWay actions positions edges y old) where
-    kept : (x : ℕ) → x < positions → x ≢ gate → old x ≡ true → new x ≡ true
-    kept x lt other h =
-        let t : (x == gate) ≡ false = ne_eqb x gate other in
-        let still : old x && not (x == gate) ≡ true = rw (h, t) refl in
-        made x lt ∙ or_left (old x && not (x == gate)) (list_any (joins x gate) edges) still
+      stands : gate - 1 < g.edges.positions
+      stands = let above = last.above in let high = last.high in let low = back.within in omega arith
 
-    found : (e : Edge) → Contains edges e → e.after ≡ gate → new e.before ≡ true
-    found e c to =
-        made e.before (ends e c).0
-        ∙ or_right (old e.before && not (e.before == gate)) (list_any (joins e.before gate) edges) (joined edges e gate c to)
+      made : (x : ℕ) → is_marked new x ≡ (is_marked old x || list_any (joins x (gate - 1)) g.edges.list)
+      made x = found x ∙ ap (λ b. is_marked old x || b) (sources_are g.edges rows sources (gate - 1) stands x)
 
-    leading : (x : ℕ) → x < positions → (old x && not (x == gate) ≡ true) ⊎ (list_any (joins x gate) edges ≡ true) → LeadsByGates actions edges x y
-    leading x lt (inl h) = way.leading x lt (sooner (old x) (not (x == gate)) h)
-    leading x lt (inr h) = around (by_edge edges x gate h) where
-      around : (e : Edge) × Contains edges e × (e.after ≡ gate) × (e.before ≡ x) → LeadsByGates actions edges x y
-      around (e, c, to, from) = rw (← from) (through e y c (rw to is_gate) (rw to (way.leading gate within is)))
+      kept : (x : ℕ) → gate - 1 ≤ x → is_marked new x ≡ is_marked old x
+      kept x ge =
+          let none = false_from_ne_true (list_any (joins x (gate - 1)) g.edges.list)
+          (λ h. let below = source_below x (gate - 1) is_gate h in let f : ⊥ = omega arith in f) in
+          made x ∙ (ap (λ b. is_marked old x || b) none ∙ or-false (is_marked old x))
 
-    by_last : (x : ℕ) → LastEdge actions edges x gate → (new x ≡ true) ⊎ LeadsToFound actions positions edges new x
-    by_last x last = on last.from where
-      on : (last.edge.before ≡ x) ⊎ ((actions ≤ last.edge.before) × LeadsByGates actions edges x last.edge.before)
-          → (new x ≡ true) ⊎ LeadsToFound actions positions edges new x
-      on (inl same) = inl (rw same at (found last.edge last.one_of last.to))
-      on (inr (gate', leads)) =
-          inr (record { gate = last.edge.before; is_gate = gate'; within = (ends last.edge last.one_of).0; is = found last.edge last.one_of last.to; leads = leads })
+      same_behind : block new (gate - 1) (length old - (gate - 1)) ≡ block old (gate - 1) (length old - (gate - 1))
+      same_behind =
+          filter-alike (is_member new) (is_member old) (gate - 1 + 1) (length old - (gate - 1)) (λ k ge lt. kept (k - 1) (omega arith))
 
-    by_gate : (x : ℕ) (to : LeadsToFound actions positions edges old x) → (to.gate ≡ gate) ⊎ (to.gate ≢ gate)
-        → (new x ≡ true) ⊎ LeadsToFound actions positions edges new x
-    by_gate x to (inl same) = by_last x (last_edge actions edges x gate (rw same at to.leads))
-    by_gate x to (inr other) =
-        inr (record { gate = to.gate; is_gate = to.is_gate; within = to.within; is = kept to.gate to.within other to.is; leads = to.leads })
+      pub gate_passed : GoesBack actions g.edges.list y (behind + 1) new
+      gate_passed =
+          let sizes : length new ≡ length old = new_size ∙ sym old_size in
+          let was = ap length (parts old (gate - 1) (omega (arith, stands))) ∙ length-append (found_below old (gate - 1)) (block old (gate - 1) (length old - (gate - 1))) in
+          let now = ap length (parts new (gate - 1) (omega (arith, stands))) ∙ length-append (found_below new (gate - 1)) (block new (gate - 1) (length new - (gate - 1))) in
+          let same = ap (λ n. length (block new (gate - 1) (n - (gate - 1)))) sizes ∙ ap length same_behind in
+          let one = ap length last.last ∙ length_push (found_below old (gate - 1)) gate in
+          let before : gate - 1 + 1 ≡ gate = let above = last.above in omega arith in
+          record {
+            lowest = gate - 1;
+            gates = is_gate;
+            within = omega (arith, stands);
+            are_behind = omega (arith, was, now, same, one, back.are_behind);
+            marked = one_gate_more actions g.edges.positions g.edges.list y graph.within upward (gate - 1) old is_gate
+                (rw before (skipped actions g.edges.list y gate back.lowest old back.marked last.none)) new last.is made;
+          }
 
-    reached : (x : ℕ) → x < actions → (old x ≡ true) ⊎ LeadsToFound actions positions edges old x → (new x ≡ true) ⊎ LeadsToFound actions positions edges new x
-    reached x lt (inl h) = inl (kept x (omega arith) (let other : x ≢ gate = omega arith in other) h)
-    reached x lt (inr to) = by_gate x to (cases_eq to.gate gate)
-
-    pub gate_passed : IsOnTheWay actions positions edges y new
-    gate_passed = record {
-      leading = λ x lt h. leading x lt (or_cases (old x && not (x == gate)) (list_any (joins x gate) edges) (sym (made x lt) ∙ h));
-      reached = λ x lt leads. reached x lt (way.reached x lt leads);
-    }
-
--- once no gate is left, just the actions that lead to y are found
-pub found_leads : (actions positions : ℕ) (edges : List Edge) (y : ℕ) (has : ℕ → Bool) → IsOnTheWay actions positions edges y has
-    → ((x : ℕ) → actions ≤ x → x < positions → has x ≡ false) → (x : ℕ) → x < actions → LeadsByGates actions edges x y → has x ≡ true
-found_leads actions positions edges y has way none x lt leads = on (way.reached x lt leads) where
-  on : (has x ≡ true) ⊎ LeadsToFound actions positions edges has x → has x ≡ true
-  on (inl h) = h
-  on (inr to) = let gone = none to.gate to.is_gate to.within in let here = to.is in cc
-
--- the edges to a gate come from below it
-pub source_below : (actions : ℕ) (edges : List Edge) (x gate : ℕ) → LeadUpward actions edges → actions ≤ gate → list_any (joins x gate) edges ≡ true → x < gate
-source_below actions edges x gate upward is_gate h = on (by_edge edges x gate h) where
-  on : (e : Edge) × Contains edges e × (e.after ≡ gate) × (e.before ≡ x) → x < gate
-  on (e, c, to, from) = let up = upward e c (rw to is_gate) in omega arith
+-- once no gate is left, the numbers of the actions that come before stand first
+pub befores_found : (g : GraphOf) (actions number behind : ℕ) (found : List Bool) → IsGraph g → actions ≡ length g.actions → 0 < number → number ≤ length g.actions
+    → (back : GoesBack actions g.edges.list (number - 1) behind found) → NoneFound found actions back.lowest
+    → take (length (members found) - behind) (members found) ≡ befores g number
+befores_found g actions number behind found graph count low high back none =
+    let size : length (found_below found back.lowest) ≡ length (members found) - behind = omega (arith, back.are_behind) in
+    let first : take (length (members found) - behind) (members found) ≡ found_below found actions
+    = ap (take (length (members found) - behind)) (parts found back.lowest back.within)
+    ∙ (take_at (found_below found back.lowest) (block found back.lowest (length found - back.lowest)) (length (members found) - behind) size ∙ none.same) in
+    are_befores g g.edges actions number found found (take (length (members found) - behind) (members found)) graph refl count low high
+    (skipped actions g.edges.list (number - 1) actions back.lowest found back.marked none.none) refl first

@@ -1,155 +1,176 @@
--- What is found, by the numbers of actions and gates.
-use Rattle.std.proofs.Common.{arith, ◌≡◌, ◌≢◌, ◌⊎◌, inl, inr, ◌<◌, ◌≤◌, ◌+◌, ◌-◌, ◌==◌, ◌||◌, ◌&&◌, not, ℕ, Bool, true, false, List, [], length, get_or, set, refl, sym, ap, ◌∙◌}
-use Rattle.std.specs.Prelude.{nat_lt}
-use Rattle.std.proofs.Math.Bool.{or-false, and-false, or-true, and-true}
-use Rattle.std.proofs.lemmas.Bool.{cases_eq, ne_eqb, lt-ltb, le-ltb, ltb-true, ltb-false}
-use Rattle.std.proofs.lemmas.List.{get_or-set_same, get_or-set_other, length-set}
+-- The places of the numbers that were found, in ascending order.
+use Rattle.std.proofs.Common.{arith, ◌≡◌, ◌≢◌, ◌⊎◌, inl, inr, ◌<◌, ◌≤◌, ◌+◌, ◌-◌, ◌==◌, ◌||◌, ℕ, suc, zero, Bool, true, false, Some, List, ◌∷◌, ◌++◌, length, take, drop, set, get_or, slice_get, refl, sym, ap, subst, ◌∙◌}
+use Rattle.std.specs.List.{range_with_len}
+use Rattle.std.proofs.Math.Bool.{or-false, or_assoc}
+use Rattle.std.proofs.lemmas.Bool.{cases_eq, ne_eqb, or_right}
+use Rattle.std.proofs.lemmas.List.{drop_more, get_or_push, get_or-set_same, get_or-set_other, get_or-take, length_push, length-set, length-take-le}
+use Rattle.std.proofs.lemmas.List.Folds.{list_any_more}
+use Rattle.std.proofs.lemmas.List.FromFn.{get_or-range_with_len, length-range_with_len}
+use Rattle.std.proofs.lemmas.List.Sums.{count_by-le-length, length-filter}
+use Rattle.std.proofs.lemmas.Option.{get_or_from_slice_get, slice_get_within}
+use Rattle.lemmas.proofs.Booleans.{number_itself}
+use Rattle.lemmas.proofs.Counts.{count_one_more}
+use Rattle.lemmas.proofs.Members.{of_filter, of_range, slice_get_left}
+use Rattle.edges.specs.Sources.{is_in_list}
+use Rattle.listed.specs.Flags.{is_marked}
 use Rattle.listed.specs.Sets.{is_member, members}
-use Rattle.trace_text.specs.declared.found_actions.Found.{Found}
-use Rattle.trace_text.specs.Inner.FoundPositions.{PositionsHaveRoom, SameSizes, is_found}
-use Rattle.trace_text.proofs.FirstMembers.{no_member}
+use Rattle.listed.proofs.Blocks.{block, block_split}
+use Rattle.cluster_types.proofs.Walks.{with_marked, without}
+use Rattle.trace_text.specs.Inner.Walk.{AreBehind, IsLastFound, NoneFound, found_below}
 
-pub same_sizes : (f : Found) → SameSizes f f
-same_sizes f = record { positions = refl; actions = refl; gates = refl }
+module _ (found : List Bool) where
+  -- those below a position, and those from there on
+  pub parts : (x : ℕ) → x ≤ length found → members found ≡ found_below found x ++ block found x (length found - x)
+  parts x le =
+      let whole : length found ≡ x + (length found - x) = omega arith in
+      let from : 0 + x ≡ x = omega arith in
+      ap (found_below found) whole ∙ (block_split found 0 x (length found - x) ∙ ap (λ k. found_below found x ++ block found k (length found - x)) from)
 
-pub sizes_kept : (f g h : Found) → SameSizes f g → SameSizes g h → SameSizes f h
-sizes_kept f g h one other = record {
-  positions = other.positions ∙ one.positions;
-  actions = other.actions ∙ one.actions;
-  gates = other.gates ∙ one.gates;
-}
+  number_below : (to i number : ℕ) → slice_get (found_below found to) i ≡ Some number → number ≤ to
+  number_below to i number is =
+      let among = (of_filter (is_member found) (range_with_len 1 to) number
+      (i, slice_get_within (found_below found to) i number is, get_or_from_slice_get (found_below found to) i number number is)).among in
+      let low = of_range 1 to number among in
+      omega arith
 
-pub room_kept : (f g : Found) → PositionsHaveRoom f → SameSizes f g → PositionsHaveRoom g
-room_kept f g room same =
-    let positions = same.positions in
-    let actions = same.actions in
-    let gates = same.gates in
-    omega (arith, room, positions, actions, gates)
+  -- The last that was found from a position on and below another, or none.
 
-pub found_action : (f : Found) (x : ℕ) → x < length f.actions → is_found f x ≡ is_member f.actions (x + 1)
-found_action f x lt = let t : nat_lt x (length f.actions) ≡ true = lt-ltb x (length f.actions) lt in rw t refl
+  none_more : (low n : ℕ) → ((x : ℕ) → low ≤ x → x < n → is_marked found x ≡ false) → is_marked found n ≡ false
+      → (x : ℕ) → low ≤ x → x < n + 1 → is_marked found x ≡ false
+  none_more low n none here x ge lt = on (cases_eq x n) where
+    on : (x ≡ n) ⊎ (x ≢ n) → is_marked found x ≡ false
+    on (inl same) = rw same here
+    on (inr other) = none x ge (omega arith)
 
-pub found_gate : (f : Found) (x : ℕ) → length f.actions ≤ x → is_found f x ≡ is_member f.gates (f.positions - x)
-found_gate f x le = let t : nat_lt x (length f.actions) ≡ false = le-ltb x (length f.actions) le in rw t refl
+  abbrev Searched : ℕ → ℕ → Type 0
+  Searched from to = NoneFound found from to ⊎ ((number : ℕ) × IsLastFound found from to number)
 
-or_same : (was : Bool) (y x : ℕ) → y ≡ x → (was || y == x) ≡ true
-or_same was y x same = let t : (y == x) ≡ true = grind arith in rw t (or-true was)
+  one_more : (from n : ℕ) → from ≤ n → (here : Bool) → is_marked found n ≡ here → Searched from n → Searched from (n + 1)
+  one_more from n ge true here before =
+      let back : n + 1 - 1 ≡ n = omega arith in
+      inr (
+        n + 1,
+        record {
+          above = omega arith;
+          high = omega arith;
+          is = rw back here;
+          none = λ x low lt. absurd (let f : ⊥ = omega arith in f);
+          last = rw back (sym (with_marked found n (found_below found n) refl here));
+        },
+      )
+  one_more from n ge false here (inl before) = inl (record {
+    none = none_more from n before.none here;
+    same = sym (without found n (found_below found n) refl here) ∙ before.same;
+  })
+  one_more from n ge false here (inr (number, before)) = inr (
+    number,
+    record {
+      above = before.above;
+      high = let high = before.high in omega arith;
+      is = before.is;
+      none = none_more number n before.none here;
+      last = sym (without found n (found_below found n) refl here) ∙ before.last;
+    },
+  )
 
-or_other : (was : Bool) (y x : ℕ) → y ≢ x → (was || y == x) ≡ was
-or_other was y x other = let t : (y == x) ≡ false = ne_eqb y x other in rw t (or-false was)
+  searched : (from n : ℕ) → Searched from (from + n)
+  searched from zero =
+      let same : from + zero ≡ from = omega arith in
+      inl (record { none = λ x ge lt. absurd (let f : ⊥ = omega arith in f); same = ap (found_below found) same })
+  searched from (suc n) =
+      let next : from + n + 1 ≡ from + suc n = omega arith in
+      subst (Searched from) next (one_more from (from + n) (omega arith) (is_marked found (from + n)) refl (searched from n))
 
--- one action more
-module _ (old new : Found) (y : ℕ) (low : y < length old.actions) (positions : new.positions ≡ old.positions) (gates : new.gates ≡ old.gates)
-    (actions : new.actions ≡ set old.actions (y + 1 - 1) true) where
-  pub action_sizes : SameSizes old new
-  action_sizes = record { positions = positions; actions = ap length actions ∙ length-set old.actions (y + 1 - 1) true; gates = ap length gates }
+  module _ (from to behind : ℕ) (low : from ≤ to) (high : to ≤ length found) (places : AreBehind found to behind) where
+    found_to : Searched from to
+    found_to = let whole : from + (to - from) ≡ to = omega arith in subst (Searched from) whole (searched from (to - from))
 
-  among : (x : ℕ) → x < length old.actions → (y ≡ x) ⊎ (y ≢ x) → is_member new.actions (x + 1) ≡ (is_member old.actions (x + 1) || y == x)
-  among x lt (inl same) =
-      let place : x + 1 - 1 ≡ y + 1 - 1 = omega arith in
-      let here : get_or (set old.actions (y + 1 - 1) true) (y + 1 - 1) false ≡ true = get_or-set_same old.actions (y + 1 - 1) true false (omega arith) in
-      let set_there : get_or (set old.actions (y + 1 - 1) true) (x + 1 - 1) false ≡ true = rw place here in
-      ap (λ (fs : List Bool). is_member fs (x + 1)) actions ∙ (set_there ∙ sym (or_same (is_member old.actions (x + 1)) y x same))
-  among x lt (inr other) =
-      let differ : x + 1 - 1 ≢ y + 1 - 1 = omega arith in
-      ap (λ (fs : List Bool). is_member fs (x + 1)) actions
-      ∙ (get_or-set_other old.actions (y + 1 - 1) (x + 1 - 1) true false differ ∙ sym (or_other (is_member old.actions (x + 1)) y x other))
+    -- all of them stand behind
+    pub all_behind : length (members found) ≤ behind → NoneFound found from to
+    all_behind le = on found_to where
+      on : Searched from to → NoneFound found from to
+      on (inl none) = none
+      on (inr (number, last)) =
+          let size = ap length last.last ∙ length_push (found_below found (number - 1)) number in
+          absurd (let f : ⊥ = omega arith in f)
 
-  same_gates : (x : ℕ) → is_member new.gates (new.positions - x) ≡ is_member old.gates (old.positions - x)
-  same_gates x = rw (gates, positions) refl
+    -- this one stands before them
+    pub found_before : (number : ℕ) → behind < length (members found) → slice_get (members found) (length (members found) - 1 - behind) ≡ Some number
+        → ((number ≤ from) × NoneFound found from to) ⊎ ((from < number) × IsLastFound found from to number)
+    found_before number lt is = on found_to where
+      here : slice_get (found_below found to) (length (found_below found to) - 1) ≡ Some number
+      here =
+          let place : length (members found) - 1 - behind ≡ length (found_below found to) - 1 = omega arith in
+          let there : length (found_below found to) - 1 < length (found_below found to) = omega arith in
+          sym (slice_get_left (found_below found to) (block found to (length found - to)) (length (found_below found to) - 1) there)
+          ∙ (ap (λ (ks : List ℕ). slice_get ks (length (found_below found to) - 1)) (sym (parts to high)) ∙ (ap (slice_get (members found)) (sym place) ∙ is))
 
-  pub with_action : (x : ℕ) → x < old.positions → is_found new x ≡ (is_found old x || y == x)
-  with_action x within = on (nat_lt x (length old.actions)) refl where
-    on : (b : Bool) → nat_lt x (length old.actions) ≡ b → is_found new x ≡ (is_found old x || y == x)
-    on true t =
-        let lt = ltb-true x (length old.actions) t in
-        let size = action_sizes.actions in
-        found_action new x (omega arith) ∙ (among x lt (cases_eq y x) ∙ ap (λ b. b || y == x) (sym (found_action old x lt)))
-    on false t =
-        let ge = ltb-false x (length old.actions) t in
-        let size = action_sizes.actions in
-        let other : y ≢ x = omega arith in
-        found_gate new x (omega arith) ∙ (same_gates x ∙ (sym (found_gate old x ge) ∙ sym (or_other (is_found old x) y x other)))
+      on : Searched from to → ((number ≤ from) × NoneFound found from to) ⊎ ((from < number) × IsLastFound found from to number)
+      on (inl none) =
+          let there = ap (λ (ks : List ℕ). slice_get ks (length (found_below found to) - 1)) (sym none.same) ∙ here in
+          inl (number_below from (length (found_below found to) - 1) number there, none)
+      on (inr (k, last)) =
+          let size = ap length last.last ∙ length_push (found_below found (k - 1)) k in
+          let read = get_or_from_slice_get (found_below found to) (length (found_below found to) - 1) number 0 here in
+          let at : get_or (found_below found to) (length (found_below found to) - 1) 0 ≡ k
+          = ap (λ (ks : List ℕ). get_or ks (length (found_below found to) - 1) 0) last.last
+          ∙ get_or_push (found_below found (k - 1)) k 0 (length (found_below found to) - 1) (omega arith) in
+          let same : k ≡ number = sym at ∙ read in
+          inr (subst (λ n. (from < n) × IsLastFound found from to n) same (last.above, last))
 
--- one gate more, or one fewer
-module _ (old new : Found) (y : ℕ) (mark : Bool) (room : PositionsHaveRoom old) (high : length old.actions ≤ y) (within : y < old.positions)
-    (positions : new.positions ≡ old.positions) (actions : new.actions ≡ old.actions) (gates : new.gates ≡ set old.gates (old.positions - y - 1) mark) where
-  pub gate_sizes : SameSizes old new
-  gate_sizes = record { positions = positions; actions = ap length actions; gates = ap length gates ∙ length-set old.gates (old.positions - y - 1) mark }
+    -- fewer stand behind it than there are positions
+    pub few_behind : (number : ℕ) → IsLastFound found from to number → behind < length found
+    few_behind number last =
+        let size = ap length last.last ∙ length_push (found_below found (number - 1)) number in
+        let some = length-filter (is_member found) (range_with_len 1 (length found)) in
+        let most = count_by-le-length (is_member found) (range_with_len 1 (length found)) in
+        let numbers = length-range_with_len 1 (length found) in
+        omega arith
 
-  kept_action : (x : ℕ) → x < length old.actions → is_found new x ≡ is_found old x
-  kept_action x lt =
-      let size = gate_sizes.actions in
-      found_action new x (omega arith) ∙ (ap (λ (fs : List Bool). is_member fs (x + 1)) actions ∙ sym (found_action old x lt))
+  -- without one of them there are fewer
+  pub fewer : (number : ℕ) → 0 < number → number ≤ length found → is_member found number ≡ true
+      → length (members (set found (number - 1) false)) < length (members found)
+  fewer number low high is =
+      let size = length-set found (number - 1) false in
+      let numbers = length-range_with_len 1 (length found) in
+      let place : 1 + (number - 1) ≡ number = omega arith in
+      let less = count_one_more (is_member (set found (number - 1) false)) (is_member found) still (range_with_len 1 (length found)) (number - 1) number
+      (omega arith) (get_or-range_with_len 1 (length found) (number - 1) number (omega arith) ∙ place)
+      (get_or-set_same found (number - 1) false false (omega arith)) is in
+      let now = length-filter (is_member (set found (number - 1) false)) (range_with_len 1 (length found)) in
+      let was = length-filter (is_member found) (range_with_len 1 (length found)) in
+      rw size (omega arith)
+    where
+      still : (j : ℕ) → is_member (set found (number - 1) false) j ≡ true → is_member found j ≡ true
+      still j h = on (cases_eq (j - 1) (number - 1)) where
+        on : (j - 1 ≡ number - 1) ⊎ (j - 1 ≢ number - 1) → is_member found j ≡ true
+        on (inl same) =
+            let gone : is_member (set found (number - 1) false) j ≡ false
+            = ap (λ i. get_or (set found (number - 1) false) i false) same ∙ get_or-set_same found (number - 1) false false (omega arith) in
+            cc
+        on (inr other) = sym (get_or-set_other found (number - 1) (j - 1) false false other) ∙ h
 
-  moved_gates : (x : ℕ) → is_member new.gates (new.positions - x) ≡ get_or (set old.gates (old.positions - y - 1) mark) (old.positions - x - 1) false
-  moved_gates x = rw (gates, positions) refl
+  -- with one position more
+  with_one : (x y : ℕ) → x < length found → is_marked (set found (x + 1 - 1) true) y ≡ (is_marked found y || y == x)
+  with_one x y lt = let back : x + 1 - 1 ≡ x = omega arith in rw back (on (cases_eq y x)) where
+    on : (y ≡ x) ⊎ (y ≢ x) → is_marked (set found x true) y ≡ (is_marked found y || y == x)
+    on (inl same) = rw same (get_or-set_same found x true false lt ∙ sym (or_right (is_marked found x) (x == x) (number_itself x)))
+    on (inr other) =
+        get_or-set_other found x y true false other ∙ sym (ap (λ b. is_marked found y || b) (ne_eqb y x other) ∙ or-false (is_marked found y))
 
-  marked_gate : is_found new y ≡ mark
-  marked_gate =
-      let size = gate_sizes.actions in
-      found_gate new y (omega arith) ∙ (moved_gates y ∙ get_or-set_same old.gates (old.positions - y - 1) mark false (omega arith))
+  -- and with the next of some positions
+  pub with_next : (old : List Bool) (xs : List ℕ) (i : ℕ) → i < length xs → get_or xs i 0 < length found
+      → ((y : ℕ) → is_marked found y ≡ (is_marked old y || is_in_list (take i xs) y))
+      → (y : ℕ) → is_marked (set found (get_or xs i 0 + 1 - 1) true) y ≡ (is_marked old y || is_in_list (take (i + 1) xs) y)
+  with_next old xs i lt within so_far y =
+      with_one (get_or xs i 0) y within
+      ∙ (ap (λ b. b || y == get_or xs i 0) (so_far y)
+      ∙ (or_assoc (is_marked old y) (is_in_list (take i xs) y) (y == get_or xs i 0) ∙ ap (λ b. is_marked old y || b) (sym (list_any_more (◌==◌ y) xs i 0 lt))))
 
-  kept_gate : (x : ℕ) → length old.actions ≤ x → x < old.positions → y ≢ x → is_found new x ≡ is_found old x
-  kept_gate x ge lt other =
-      let size = gate_sizes.actions in
-      let differ : old.positions - x - 1 ≢ old.positions - y - 1 = omega arith in
-      found_gate new x (omega arith)
-      ∙ (moved_gates x ∙ (get_or-set_other old.gates (old.positions - y - 1) (old.positions - x - 1) mark false differ ∙ sym (found_gate old x ge)))
-
-  pub at_gate : (x : ℕ) → x < old.positions → y ≡ x → is_found new x ≡ mark
-  at_gate x lt same = rw (← same) marked_gate
-
-  pub not_at_gate : (x : ℕ) → x < old.positions → y ≢ x → is_found new x ≡ is_found old x
-  not_at_gate x lt other = on (nat_lt x (length old.actions)) refl where
-    on : (b : Bool) → nat_lt x (length old.actions) ≡ b → is_found new x ≡ is_found old x
-    on true t = kept_action x (ltb-true x (length old.actions) t)
-    on false t = kept_gate x (ltb-false x (length old.actions) t) lt other
-
-pub with_gate : (old new : Found) (y : ℕ) → PositionsHaveRoom old → length old.actions ≤ y → y < old.positions → new.positions ≡ old.positions
-    → new.actions ≡ old.actions → new.gates ≡ set old.gates (old.positions - y - 1) true → (x : ℕ) → x < old.positions
-    → is_found new x ≡ (is_found old x || y == x)
-with_gate old new y room high within positions actions gates x lt = on (cases_eq y x) where
-  on : (y ≡ x) ⊎ (y ≢ x) → is_found new x ≡ (is_found old x || y == x)
-  on (inl same) = at_gate old new y true room high within positions actions gates x lt same ∙ sym (or_same (is_found old x) y x same)
-  on (inr other) = not_at_gate old new y true room high within positions actions gates x lt other ∙ sym (or_other (is_found old x) y x other)
-
--- a gate is gone through: its number counts from the last
-pub without_gate : (old new : Found) (gate : ℕ) → PositionsHaveRoom old → 0 < gate → gate ≤ length old.gates → new.positions ≡ old.positions
-    → new.actions ≡ old.actions → new.gates ≡ set old.gates (gate - 1) false → (x : ℕ) → x < old.positions
-    → is_found new x ≡ (is_found old x && not (x == old.positions - gate))
-without_gate old new gate room low high positions actions gates x lt = on (cases_eq (old.positions - gate) x) where
-  place : old.positions - (old.positions - gate) - 1 ≡ gate - 1
-  place = omega arith
-
-  here : new.gates ≡ set old.gates (old.positions - (old.positions - gate) - 1) false
-  here = rw place gates
-
-  on : (old.positions - gate ≡ x) ⊎ (old.positions - gate ≢ x) → is_found new x ≡ (is_found old x && not (x == old.positions - gate))
-  on (inl same) =
-      let t : (x == old.positions - gate) ≡ true = grind arith in
-      rw t (at_gate old new (old.positions - gate) false room (omega arith) (omega arith) positions actions here x lt same ∙ sym (and-false (is_found old x)))
-  on (inr other) =
-      let t : (x == old.positions - gate) ≡ false = ne_eqb x (old.positions - gate) (λ same. other (sym same)) in
-      rw t (not_at_gate old new (old.positions - gate) false room (omega arith) (omega arith) positions actions here x lt other ∙ sym (and-true (is_found old x)))
-
--- where no member is left, nothing is found
-pub nothing_found : (f : Found) → PositionsHaveRoom f → members f.actions ≡ [] → members f.gates ≡ [] → (x : ℕ) → x < f.positions → is_found f x ≡ false
-nothing_found f room no_action no_gate x lt = on (nat_lt x (length f.actions)) refl where
-  on : (b : Bool) → nat_lt x (length f.actions) ≡ b → is_found f x ≡ false
-  on true t =
-      let low = ltb-true x (length f.actions) t in
-      found_action f x low ∙ no_member f.actions (x + 1) no_action (omega arith) (omega arith)
-  on false t =
-      let high = ltb-false x (length f.actions) t in
-      found_gate f x high ∙ no_member f.gates (f.positions - x) no_gate (omega arith) (omega arith)
-
-pub no_gate_found : (f : Found) → PositionsHaveRoom f → members f.gates ≡ [] → (x : ℕ) → length f.actions ≤ x → x < f.positions → is_found f x ≡ false
-no_gate_found f room no_gate x high lt = found_gate f x high ∙ no_member f.gates (f.positions - x) no_gate (omega arith) (omega arith)
-
--- the position of a gate
-pub gate_found : (f : Found) (gate : ℕ) → PositionsHaveRoom f → 0 < gate → gate ≤ length f.gates → is_found f (f.positions - gate) ≡ is_member f.gates gate
-gate_found f gate room low high =
-    let back : f.positions - (f.positions - gate) ≡ gate = omega arith in
-    let same : is_member f.gates (f.positions - (f.positions - gate)) ≡ is_member f.gates gate = rw back refl in
-    found_gate f (f.positions - gate) (omega arith) ∙ same
+-- the next of the first so many
+pub next_told : (xs : List ℕ) (count told number : ℕ) → told < count → count ≤ length xs → slice_get xs told ≡ Some number
+    → drop told (take count xs) ≡ number ∷ drop (told + 1) (take count xs)
+next_told xs count told number lt le is =
+    let size = length-take-le count xs le in
+    let read : get_or (take count xs) told number ≡ number = get_or-take count xs told number lt ∙ get_or_from_slice_get xs told number number is in
+    drop_more (take count xs) told number (omega arith) ∙ ap (λ k. k ∷ drop (told + 1) (take count xs)) read

@@ -1,8 +1,4 @@
 -- What no public clause rests on: what the code of this crate keeps and counts on the way, for its proofs alone.
-pub mod ArrivingEdges
-pub mod Backward
-pub mod FoundPositions
 pub mod Room
-pub mod ShortNumbers
 pub mod TargetWalk
 pub mod Walk

@@ -1,9 +1,8 @@
 //! The text of a graph.
 
-ghost use Rattle.std.specs.Prelude.{◌≡◌, ◌<◌, ◌≤◌, ◌-◌, ◌++◌, ℕ, Some, codes, decimal, length, slice_get, IfOk, OnOk};
+ghost use Rattle.std.specs.Prelude.{◌≡◌, ◌<◌, ◌≤◌, ◌++◌, ℕ, codes, decimal, length, IfOk, OnOk};
 ghost use Rattle.std.specs.List.{flat_map};
 ghost use Rattle.cluster_types.specs.declared.cluster.Cluster.{Cluster as ClusterOf};
-ghost use Rattle.cluster_types.specs.declared.journal.Action.{Action as ActionOf};
 ghost use Rattle.cluster_types.specs.Graphs.{is_before};
 ghost use Rattle.cluster_types.specs.Texts as texts;
 
@@ -11,7 +10,7 @@ use crate::line_text::LineText;
 use crate::numbers::put_numbered;
 use crate::run_lines::put_action;
 use crate::walk::Predecessors;
-use cluster_types::{Cluster, Graph};
+use cluster_types::{Action, Cluster, Graph};
 use faults::NoMemory;
 use std::alloc::Global;
 
@@ -39,22 +38,23 @@ fn push_after(text: &mut Vec<u8>, before: &mut Predecessors<'_>) -> Result<(), N
     push_all(text, before)
 }
 
-/// The line of the action of this number.
+/// The line of an action of this number.
 fn push_line(
     text: &mut Vec<u8>,
     cluster: &Cluster,
     before: &mut Predecessors<'_>,
     number: u32,
+    action: Action,
 ) -> Result<(), NoMemory>
     requires from_one { 0 < number }
     requires to_count { number ≤ length before.old.graph.actions }
-    ensures line { OnOk result ((action : ActionOf) → slice_get before.old.graph.actions (number - 1) ≡ Some action → text.new.items
-        ≡ text.old.items ++ texts.graph_line cluster.now (is_before before.old.graph) (length before.old.graph.actions) (number, action)) }
+    ensures line { OnOk result (text.new.items ≡ text.old.items
+        ++ texts.graph_line cluster.now (is_before before.old.graph) (length before.old.graph.actions) (number, action)) }
     ensures graph { before.new.graph ≡ before.old.graph }
 {
     put_numbered(text, b"action ", number as u64)?;
     text.put(b" ")?;
-    put_action(text, cluster, before.graph().action(number))?;
+    put_action(text, cluster, action)?;
     before.walk_to(number);
     push_after(text, before)?;
     text.put(b"\n")?;
@@ -69,7 +69,9 @@ pub fn graph_text(alloc: Global, cluster: &Cluster, graph: &Graph) -> Result<Vec
     let mut text = Vec::new(alloc);
     let mut before = Predecessors::new(alloc, graph)?;
     for place in 0..graph.count() {
-        push_line(&mut text, cluster, &mut before, place + 1)?;
+        let number = place + 1;
+        let action = graph.action(number);
+        push_line(&mut text, cluster, &mut before, number, action)?;
     }
     Ok(text)
 }

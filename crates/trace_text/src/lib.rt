@@ -6,8 +6,8 @@ mod names;
 mod numbers;
 
 // Which actions of a graph come before one.
-mod arriving_edges;
-mod found_actions;
+mod found_positions;
+mod sources;
 mod walk;
 
 // The lines of each text.
@@ -23,7 +23,6 @@ mod line_text;
 mod run_line_ref;
 mod run_lines;
 mod runs;
-mod short_numbers;
 
 // What follows from the definitions.
 mod laws;

@@ -11,7 +11,6 @@ use crate::line_text::LineText;
 use crate::names::{node_name, put_leaf, put_node, put_on};
 use crate::numbers::{put_number, put_number_line, put_numbered};
 use crate::run_line_ref::RunLineRef;
-use crate::short_numbers::{line_is_short, number_is_short};
 use cluster_types::{Action, Answer, Cluster, LeafId, NoReason, NodeId, Op, Pin, Target};
 
 /// The word of an operation, with a space behind it.
@@ -278,7 +277,6 @@ pub fn write_line(cluster: &Cluster, line: &RunLineRef<'_>, text: &mut LineBuf)
     ensures text { text.new ≡ texts.run_line cluster.now (lent_line line.now) }
     ensures size { length text.new < 1024 }
 {
-    line_is_short(line);
     text.clear();
     let Ok(()) = put_line(text, cluster, line);
 }
@@ -302,7 +300,6 @@ pub fn write_refusal(line: u32, cause: &str, text: &mut LineBuf)
     ensures text { text.new ≡ codes "refused " ++ decimal line ++ codes " " ++ cause.now ++ codes "\n" }
     ensures size { length text.new < 1024 }
 {
-    number_is_short(line as u64);
     text.clear();
     let Ok(()) = put_refusal(text, line, cause);
 }

@@ -49,7 +49,6 @@ pub fn push_total(
 }
 
 /// The lines of the totals of a leaf, in the order of nodes.
-#[tactic(auto, using(crate::proofs::MoreLines::placed_lines_more))]
 fn push_totals(
     text: &mut Vec<u8>,
     cluster: &Cluster,

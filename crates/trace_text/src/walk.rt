@@ -1,55 +1,59 @@
 ghost use Rattle.std.specs.Prelude.{◌≡◌, ◌<◌, ◌≤◌, [], drop, length, slice_get, IfOk};
 ghost use Rattle.trace_text.specs.Inner.Walk.{befores};
 
-use crate::arriving_edges::Arriving;
-use crate::found_actions::Found;
+use crate::found_positions::walk_back;
+use crate::sources::source_rows;
 use cluster_types::{Graph, NoMemory};
+use edges::Rows;
+use listed::NumberSet;
 use std::alloc::Global;
 use std::marker::Model;
 
 /// Tells which actions of a graph come before one of them, directly or through gates alone.
 ///
-/// Contracts see the graph, and the numbers that are still to be told. It takes no memory once it is made. What comes before an action is found by the
-/// edges that lead to it and to the gates before it alone, and told in ascending order, each number in a time that grows with the logarithm of the
-/// positions.
+/// Contracts see the graph, and the numbers that are still to be told. It takes no memory once it is made. What comes
+/// before an action is found by the edges that lead to it and to the gates before it alone, and told in ascending order,
+/// each number in a time that grows with the logarithm of the positions.
 #[derive(Drop)]
 pub struct Predecessors<'g> {
     graph: &'g Graph,
-    links: Arriving,
-    found: Found,
+    /// From where the edges lead to each position.
+    sources: Rows,
+    /// What the last walk has found.
+    found: NumberSet,
+    /// How many actions it has found.
+    count: u32,
+    /// How many of them are told.
+    told: u32,
 }
 
 impl<'g> Model for Predecessors<'g> {
+    ghost use Rattle.std.specs.Prelude.{drop, take};
     ghost use Rattle.listed.specs.Sets.{members};
     ghost use Rattle.trace_text.specs.Inner.Walk.{WalkRests, Walk};
 
     ghost Value = { Walk };
 
-    ghost view = { λ p. record { graph = p.graph.now; left = members p.found.actions } };
+    ghost view = { λ p. record { graph = p.graph.now; left = drop p.told (take p.count (members p.found)) } };
 
-    ghost invariant = { λ p. WalkRests p.graph.now p.links.last.items p.links.earlier.items p.found };
+    ghost invariant = { λ p. WalkRests p.graph.now p.sources p.found p.count };
 }
 
 impl<'g> Predecessors<'g> {
-    /// Nothing is told yet. It goes once over all edges. Out of memory is its only other answer.
+    /// Nothing is told yet. It goes over all edges. Out of memory is its only other answer.
     pub fn new(alloc: Global, graph: &'g Graph) -> Result<Predecessors<'g>, NoMemory>
         ensures { IfOk result (λ p. p ≡ record { graph = graph.now; left = [] }) }
     {
         let edges = graph.edges();
-        let links = Arriving::new(alloc, edges.positions, edges.list.as_slice())?;
-        let found = Found::new(alloc, edges.positions, graph.count())?;
+        let sources = source_rows(alloc, edges)?;
+        let found = NumberSet::new(alloc, edges.positions)?;
         Ok(Predecessors {
             graph,
-            links,
+            sources,
             found,
+            count: 0,
+            told: 0,
         })
-    }
-
-    /// The graph.
-    pub fn graph(&self) -> &'g Graph
-        ensures { result.now ≡ self.now.graph }
-    {
-        self.graph
     }
 
     /// From now on the actions are told that come before the action of this number. What was left of another is told no more.
@@ -58,9 +62,8 @@ impl<'g> Predecessors<'g> {
         requires to_count { number ≤ length self.old.graph.actions }
         ensures { self.new ≡ record { graph = self.old.graph; left = befores self.old.graph number } }
     {
-        let graph = self.graph;
-        let edges = graph.edges().list.as_slice();
-        self.found.walk_to(edges, &self.links, number - 1);
+        self.count = walk_back(&mut self.found, &self.sources, self.graph, number);
+        self.told = 0;
     }
 
     /// The next number, in ascending order, or none where all are told.
@@ -68,8 +71,11 @@ impl<'g> Predecessors<'g> {
         ensures next { result ≡ slice_get self.old.left 0 }
         ensures left { self.new ≡ record { graph = self.old.graph; left = drop 1 self.old.left } }
     {
-        let number = self.found.actions.first()?;
-        self.found.actions.remove(number);
+        if self.told >= self.count {
+            return None;
+        }
+        let number = self.found.nth(self.told);
+        self.told += 1;
         Some(number)
     }
 }

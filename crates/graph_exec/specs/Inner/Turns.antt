@@ -1,5 +1,5 @@
 -- One transition of a replay, and what comes right after it. No public clause cites this module (rule of this project).
-use Rattle.std.specs.Prelude.{◌≡◌, ◌⊎◌, ℕ, ◌+◌, Bool, true, false, Option, Some, None, Result, Ok, Err, List, [], ◌++◌}
+use Rattle.std.specs.Prelude.{◌≡◌, ◌≤◌, ◌⊎◌, ℕ, ◌+◌, Bool, true, false, Option, Some, None, Result, Ok, Err, List, [], ◌++◌}
 use Rattle.cluster_types.specs.declared.cluster.Cluster.{Cluster}
 use Rattle.cluster_types.specs.declared.journal.Answer.{Answer}
 use Rattle.cluster_types.specs.declared.journal.Event.{Event}
@@ -12,6 +12,7 @@ use Rattle.cluster_types.specs.Runs.{RunStanding, due, idle, Runs, RunsOn, IsAsk
 use Rattle.cluster_types.specs.Graphs.{GraphOf}
 use Rattle.cluster_types.specs.Plans.{CarriesOut}
 use Rattle.cluster_types.specs.UnpackedStates.{states_of}
+use Rattle.run_safety.specs.TwoRuns.{transition_number_at}
 use Rattle.graph_exec.specs.LastWords.{LastWord, none_failed}
 use Rattle.graph_exec.specs.KnownJournals.{KnownJournalOf}
 use Rattle.graph_exec.specs.Promises.{IsGraphPlanned}
@@ -59,6 +60,8 @@ module _ (Follows : List RunLine → Type 0) (s : Setting) (from : RunStanding) 
     pub promotions_stay : journal.promotions ≡ s.promotions
     pub came : HasComeTo (at journal.events)
 
+-- how such a part ends the run. No transition behind that of this number has begun
+module _ (Follows : List RunLine → Type 0) (s : Setting) (from : RunStanding) (old new : Sight) (number : ℕ) where
   pub record EndsWhole (journal : Journal) : Type 0 where
     pub last : RunStanding
     pub lines : List RunLine
@@ -66,6 +69,7 @@ module _ (Follows : List RunLine → Type 0) (s : Setting) (from : RunStanding) 
     pub told : Follows lines
     pub over : IsOver s.cluster s.promotions s.whole last new.rest
     pub leaves : journal ≡ journal_back s last
+    pub few : transition_number_at last ≤ number
 
   pub record RunEndsCut (journal : Journal) (given : Answer) : Type 0 where
     pub last : RunStanding
@@ -75,6 +79,7 @@ module _ (Follows : List RunLine → Type 0) (s : Setting) (from : RunStanding) 
     pub told : Follows lines
     pub cut : IsCutAt s.cluster s.promotions s.whole last unread given new.rest
     pub leaves : journal ≡ journal_back s last
+    pub few : transition_number_at last ≤ number
 
   pub record EndsBroken (journal : Journal) : Type 0 where
     pub last : RunStanding
@@ -85,6 +90,7 @@ module _ (Follows : List RunLine → Type 0) (s : Setting) (from : RunStanding) 
     pub said : s.steady ≡ true → IsSaid s from last lines old.rest new.rest
     pub not_over : s.steady ≡ true → old.over ≡ false
     pub leaves : journal ≡ journal_back s last
+    pub few : transition_number_at last ≤ number
 
   pub record EndsStopped (Stopped : List RunLine → Option RunLine → Type 0) (journal : Journal) : Type 0 where
     pub before : RunStanding
@@ -96,6 +102,7 @@ module _ (Follows : List RunLine → Type 0) (s : Setting) (from : RunStanding) 
     pub step : RunsOn s.cluster s.promotions s.whole before middle call next new.rest
     pub told : StopsAmong (λ passed at. Stopped (lines ++ passed) (Some at)) call
     pub leaves : journal ≡ journal_back s next
+    pub few : transition_number_at before ≤ number
 
   pub record EndsStoppedAsking (Stopped : List RunLine → Option RunLine → Type 0) (journal : Journal) : Type 0 where
     pub last : RunStanding
@@ -104,6 +111,7 @@ module _ (Follows : List RunLine → Type 0) (s : Setting) (from : RunStanding) 
     pub told : Stopped lines None
     pub asking : IsAsking s.cluster s.promotions s.whole last
     pub leaves : journal ≡ journal_back s last
+    pub few : transition_number_at last ≤ number
 
   pub record RunEndsBetween : Type 0 where
     pub at : RunStanding
@@ -111,6 +119,7 @@ module _ (Follows : List RunLine → Type 0) (s : Setting) (from : RunStanding) 
     pub runs : Runs s.cluster s.promotions s.whole from old.rest lines at new.rest
     pub told : Follows lines
     pub between : IsBetween s.cluster s.promotions s.whole at
+    pub few : transition_number_at at ≤ number
 
   -- how it ended on the way
   abbrev pub RunEndsAs : (List RunLine → Option RunLine → Type 0) → Result Journal (ReplayStop Journal) → Type 0

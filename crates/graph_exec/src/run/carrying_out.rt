@@ -45,7 +45,7 @@ pub(crate) fn carry_out<'c, S: Outcomes, V: Watcher>(
         (amid number (transition_in executor.entry) [])
         (sight (S.rest outcomes.old) (S.over outcomes.old))
         (sight (S.rest outcomes.new) (S.over outcomes.new))
-        (V.stopped watcher.old watcher.new)) }
+        number (V.stopped watcher.old watcher.new)) }
 
     ensures agrees { S.agrees outcomes.old executor.entry.cluster executor.entry.planned_at 0
         → IfOk result (λ closed. S.agrees outcomes.new executor.entry.cluster closed.journal.events 0) }

@@ -89,7 +89,7 @@ pub(crate) fn take_idle<'c, S: Outcomes, V: Watcher>(
         (idle number journal.entry.events)
         (sight (S.rest outcomes.old) (S.over outcomes.old))
         (sight (S.rest outcomes.new) (S.over outcomes.new))
-        (V.stopped watcher.old watcher.new)) }
+        number (V.stopped watcher.old watcher.new)) }
 
     ensures agrees { S.agrees outcomes.old journal.entry.cluster journal.entry.events 0
         → IfOk result (λ later. S.agrees outcomes.new journal.entry.cluster later.events 0) }

@@ -59,7 +59,7 @@ pub(crate) fn make_transition<'c, S: Outcomes, V: Watcher>(
         (due number journal.entry.events)
         (sight (S.rest outcomes.old) (S.over outcomes.old))
         (sight (S.rest outcomes.new) (S.over outcomes.new))
-        (V.stopped watcher.old watcher.new)) }
+        number (V.stopped watcher.old watcher.new)) }
 
     ensures agrees { S.agrees outcomes.old journal.entry.cluster journal.entry.events 0
         → IfOk result (λ turn. S.agrees outcomes.new journal.entry.cluster turn.journal.events 0) }

@@ -14,4 +14,4 @@ module _ (c : Cluster) (journal : Journal) (number : ℕ) where
     pub world : World
     pub of_cluster : kept.reality.cluster ≡ c
     pub shows : ShowsWorld kept.reality world
-    pub is : IsLived lived.run lived.over world
+    pub is : IsLived c journal number lived.run lived.over world

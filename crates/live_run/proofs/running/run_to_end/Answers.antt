@@ -11,7 +11,7 @@ returns-in-Ok-clause-reaches g c =
     (state_of c.replay_watched.new.outcomes) (writer_cluster c.args.writer.now) c.requires.fresh c.requires.names (g.S.Source.left (outcomes_source c.args.outcomes.now))
     (g.S.Source.left (outcomes_source c.replay_watched.new.outcomes)) (g.W.Sink.written (sink_of c.args.writer.now)) (g.W.Sink.written (sink_of c.replay_watched.new.watcher))
     (g.W.Sink.written (sink_of c.end_of_whole.new.writer)) (writer_held c.replay_watched.new.watcher) (has_course_ended (state_of c.args.outcomes.now).course) (has_course_ended (state_of c.replay_watched.new.outcomes).course)
-    c.in-Ok.journal _ _ (λ lines told. rw c.requires.empty at told.text) c.in-Ok.ensures.run c.in-Ok.ensures.source.came.0.follows c.end_of_whole.result c.end_of_whole.ensures.text
+    c.in-Ok.journal _ _ _ (λ lines told. rw c.requires.empty at told.text) c.in-Ok.ensures.run c.in-Ok.ensures.source.came.0.follows c.end_of_whole.result c.end_of_whole.ensures.text
 
 pub returns-in-Err-Unexpected-clause-reaches : goal.returns-in-Err-Unexpected-clause-reaches
 returns-in-Err-Unexpected-clause-reaches g c =
@@ -19,7 +19,7 @@ returns-in-Err-Unexpected-clause-reaches g c =
     (state_of c.replay_watched.new.outcomes) (writer_cluster c.args.writer.now) c.requires.fresh c.requires.names (g.S.Source.left (outcomes_source c.args.outcomes.now))
     (g.S.Source.left (outcomes_source c.replay_watched.new.outcomes)) (g.W.Sink.written (sink_of c.args.writer.now)) (g.W.Sink.written (sink_of c.replay_watched.new.watcher))
     (g.W.Sink.written (sink_of c.end_of_cut.new.writer)) (writer_held c.replay_watched.new.watcher) (has_course_ended (state_of c.args.outcomes.now).course) (has_course_ended (state_of c.replay_watched.new.outcomes).course)
-    c.in-Err-Unexpected.journal _ _ c.in-Err-Unexpected.field-0-1 (λ lines told. rw c.requires.empty at told.text) (rw c.in-Err-Unexpected.field-0-is at c.in-Err-Unexpected.ensures.run)
+    c.in-Err-Unexpected.journal _ _ _ c.in-Err-Unexpected.field-0-1 (λ lines told. rw c.requires.empty at told.text) (rw c.in-Err-Unexpected.field-0-is at c.in-Err-Unexpected.ensures.run)
     (rw c.in-Err-Unexpected.field-0-is at c.in-Err-Unexpected.ensures.source).came.follows c.end_of_cut.result c.end_of_cut.ensures.text
 
 pub returns-in-Err-SourceFault-clause-reaches : goal.returns-in-Err-SourceFault-clause-reaches
@@ -28,7 +28,7 @@ returns-in-Err-SourceFault-clause-reaches g c =
     (state_of c.replay_watched.new.outcomes) (writer_cluster c.args.writer.now) c.requires.fresh c.requires.names (g.S.Source.left (outcomes_source c.args.outcomes.now))
     (g.S.Source.left (outcomes_source c.replay_watched.new.outcomes)) (g.W.Sink.written (sink_of c.args.writer.now)) (g.W.Sink.written (sink_of c.replay_watched.new.watcher))
     (g.W.Sink.written (sink_of c.end_of_lines.new.writer)) (writer_held c.replay_watched.new.watcher) (has_course_ended (state_of c.args.outcomes.now).course) (has_course_ended (state_of c.replay_watched.new.outcomes).course)
-    c.in-Err-SourceFault.journal _ _ (λ lines told. rw c.requires.empty at told.text) (rw c.in-Err-SourceFault.field-0-is at c.in-Err-SourceFault.ensures.quiet) (rw c.in-Err-SourceFault.field-0-is at c.in-Err-SourceFault.ensures.run)
+    c.in-Err-SourceFault.journal _ _ _ (λ lines told. rw c.requires.empty at told.text) (rw c.in-Err-SourceFault.field-0-is at c.in-Err-SourceFault.ensures.quiet) (rw c.in-Err-SourceFault.field-0-is at c.in-Err-SourceFault.ensures.run)
     (failed_kind g.S.Source.counts_only_failures (outcomes_view g.S.Source.left g.S.Source.faults c.args.outcomes.now)
     (outcomes_view g.S.Source.left g.S.Source.faults c.replay_watched.new.outcomes)
     ((rw c.in-Err-SourceFault.field-0-is at c.in-Err-SourceFault.ensures.source).came.1 (ap (λ (s : SourceState). is_reading s.course) c.requires.fresh)))
@@ -40,7 +40,7 @@ returns-in-Err-Stopped-clause-reaches g c =
     (state_of c.replay_watched.new.outcomes) (writer_cluster c.args.writer.now) c.requires.fresh c.requires.names (g.S.Source.left (outcomes_source c.args.outcomes.now))
     (g.S.Source.left (outcomes_source c.replay_watched.new.outcomes)) (g.W.Sink.written (sink_of c.args.writer.now)) (g.W.Sink.written (sink_of c.replay_watched.new.watcher))
     (g.W.Sink.written (sink_of c.replay_watched.new.watcher)) (writer_held c.replay_watched.new.watcher) (has_course_ended (state_of c.args.outcomes.now).course) (has_course_ended (state_of c.replay_watched.new.outcomes).course)
-    c.in-Err-Stopped.journal _ _ (λ lines at told. rw c.requires.empty at told.text) (rw c.in-Err-Stopped.field-0-is at c.in-Err-Stopped.ensures.run) (rw c.in-Err-Stopped.field-0-is at c.in-Err-Stopped.ensures.source).came.follows
+    c.in-Err-Stopped.journal _ _ _ (λ lines at told. rw c.requires.empty at told.text) (rw c.in-Err-Stopped.field-0-is at c.in-Err-Stopped.ensures.run) (rw c.in-Err-Stopped.field-0-is at c.in-Err-Stopped.ensures.source).came.follows
 
 pub returns-in-Err-NoMemory-clause-reaches : goal.returns-in-Err-NoMemory-clause-reaches
 returns-in-Err-NoMemory-clause-reaches g c =
@@ -48,5 +48,5 @@ returns-in-Err-NoMemory-clause-reaches g c =
     (state_of c.replay_watched.new.outcomes) (writer_cluster c.args.writer.now) c.requires.fresh c.requires.names (g.S.Source.left (outcomes_source c.args.outcomes.now))
     (g.S.Source.left (outcomes_source c.replay_watched.new.outcomes)) (g.W.Sink.written (sink_of c.args.writer.now)) (g.W.Sink.written (sink_of c.replay_watched.new.watcher))
     (g.W.Sink.written (sink_of c.end_without_memory.new.writer)) (writer_held c.replay_watched.new.watcher) (has_course_ended (state_of c.args.outcomes.now).course) (has_course_ended (state_of c.replay_watched.new.outcomes).course)
-    c.args.journal _ _ (λ lines told. rw c.requires.empty at told.text) (rw c.in-Err-NoMemory.field-0-is at c.in-Err-NoMemory.ensures.run)
+    c.args.journal _ _ _ (λ lines told. rw c.requires.empty at told.text) (rw c.in-Err-NoMemory.field-0-is at c.in-Err-NoMemory.ensures.run)
     (rw c.in-Err-NoMemory.field-0-is at c.in-Err-NoMemory.ensures.source).came.follows c.end_without_memory.result c.end_without_memory.ensures.text

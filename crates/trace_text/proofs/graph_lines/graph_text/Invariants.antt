@@ -6,6 +6,6 @@ use Rattle.trace_text.proofs.graph_lines.graph_text.Given as goal
 
 abbrev pub invariant-loop-place : goal.invariant-loop-place
 invariant-loop-place l = record {
-  so_far : l.text.items ≡ flat_map (graph_line l.cluster (is_before l.graph) (length l.graph.actions)) (enumerate_from 1 (take l.place l.graph.actions));
+  so_far : l.text.items ≡ flat_map (graph_line l.cluster (is_before l.graph) (length l.graph.actions)) (take l.place (enumerate_from 1 l.graph.actions));
   graph : l.before.graph ≡ l.graph;
 }

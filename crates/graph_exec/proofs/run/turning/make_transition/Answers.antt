@@ -33,7 +33,7 @@ returns-in-Err-clause-ends g c =
     let p = c.in-Ok.planned in
     let ready = c.in-Ok.ensures.ready in
     let begun = came_begun j p ready _ _ _ _ _ _ (c.in_default-planned.ensures.follows refl _ c.requires.lines) in
-    ends_behind _ _ _ (g.met.V.Watcher.from_before _ _ _) _ _ _ _ _ _ _ _ begun _ _ (same_cluster j p ready) (same_promotions j p ready) _ _ _ (g.met.V.Watcher.stopped_later _ _ _) _ (λ steady h. h) (rw c.in-Err.ensures at c.carry_out-carried.ensures.ends)
+    ends_behind _ _ _ (g.met.V.Watcher.from_before _ _ _) _ _ _ _ _ _ _ _ begun _ _ (same_cluster j p ready) (same_promotions j p ready) _ _ _ (g.met.V.Watcher.stopped_later _ _ _) _ _ (λ steady h. h) (rw c.in-Err.ensures at c.carry_out-carried.ensures.ends)
 
 -- it was aborted
 
@@ -71,7 +71,7 @@ returns-in-Err-with-clause-ends g c =
     let begun = came_begun j p ready _ _ _ _ _ _ (c.in_default-planned.ensures.follows refl _ c.requires.lines) in
     let closed = comes_behind _ _ _ (g.met.V.Watcher.from_before _ _ _) _ _ _ _ _ _ _ _ begun _ _ (same_cluster j p ready) (same_promotions j p ready) _ _ _ c.carry_out-carried.ensures.source.over
     (rw (c.in-Ok-with.ensures.1, c.if-not-closed.false) at c.carry_out-carried.ensures.closes) in
-    ends_behind _ _ _ (g.met.V.Watcher.from_before _ _ _) _ _ _ _ _ _ _ _ closed.came _ _ closed.cluster_stays closed.promotions_stay _ _ _ (g.met.V.Watcher.stopped_later _ _ _) _ c.carry_out-carried.ensures.source.over
+    ends_behind _ _ _ (g.met.V.Watcher.from_before _ _ _) _ _ _ _ _ _ _ _ closed.came _ _ closed.cluster_stays closed.promotions_stay _ _ _ (g.met.V.Watcher.stopped_later _ _ _) _ _ c.carry_out-carried.ensures.source.over
     (rw (c.carry_out-carried.ensures.source.whole, c.carry_out-carried.ensures.source.steady) at (rw c.in-Err-with.ensures at c.take_idle-taken.ensures.ends))
 
 -- what the source and the watcher have come to

@@ -1,4 +1,4 @@
-use Rattle.std.proofs.Common.{arith, ◌≡◌, ap, refl, ◌∙◌}
+use Rattle.std.proofs.Common.{arith, ◌≡◌, ◌≤◌, ◌+◌, ap, refl, ◌∙◌}
 use Rattle.run_safety.proofs.SafeRuns.{safe_run}
 use Rattle.graph_exec.proofs.Aborting.{none_answered, not_most, one_more_answered}
 use Rattle.graph_exec.proofs.Lasts.{source_same, source_then, watcher_same, watcher_then}
@@ -9,7 +9,7 @@ use Rattle.graph_exec.proofs.run.watched_run.replay_watched.Goals as goal
 -- no memory is left
 
 pub returns-in_default-clause-run : goal.returns-in_default-clause-run
-returns-in_default-clause-run g c = nothing_made _ _ (g.met.V.Watcher.from_itself _) _ _ _
+returns-in_default-clause-run g c = nothing_made _ _ (g.met.V.Watcher.from_itself _) _ _ _ _
 
 pub returns-in_default-clause-safe : goal.returns-in_default-clause-safe
 returns-in_default-clause-safe g c = safe_run _ _ _ c.requires.valid _ _ c.requires.at_rest
@@ -67,7 +67,8 @@ loop-made-preserved g c =
 pub returns-in-Err-clause-run : goal.returns-in-Err-clause-run
 returns-in-Err-clause-run g c =
     let so_far = c.loop-made.invariant in
-    replays _ _ _ _ _ _ _ _ (ends_behind _ _ _ (g.met.V.Watcher.from_before _ _ _) _ _ _ _ _ _ _ _ so_far.came.came _ _ so_far.came.cluster_stays so_far.came.promotions_stay _ _ _ (g.met.V.Watcher.stopped_later _ _ _) _ so_far.source.over
+    let within : c.loop-made.made + 1 ≤ c.args.most = omega arith in
+    replays _ _ _ _ _ _ (c.loop-made.made + 1) _ within _ (ends_behind _ _ _ (g.met.V.Watcher.from_before _ _ _) _ _ _ _ _ _ _ _ so_far.came.came _ _ so_far.came.cluster_stays so_far.came.promotions_stay _ _ _ (g.met.V.Watcher.stopped_later _ _ _) _ _ so_far.source.over
     (rw (so_far.source.whole, so_far.source.steady) at c.in-Err.ensures.ends))
 
 pub returns-in-Err-clause-safe : goal.returns-in-Err-clause-safe
@@ -77,8 +78,8 @@ pub returns-in-Err-clause-kept : goal.returns-in-Err-clause-kept
 returns-in-Err-clause-kept g c =
     let so_far = c.loop-made.invariant in
     kept (g.V.Watcher.follows c.args.watcher.now c.make_transition.new.watcher) _ _ _ _ (safe_run _ _ _ c.requires.valid _ _ c.requires.at_rest)
-    (g.V.Watcher.stopped c.args.watcher.now c.make_transition.new.watcher) _
-    (ends_behind _ _ _ (g.met.V.Watcher.from_before _ _ _) _ _ _ _ _ _ _ _ so_far.came.came _ _ so_far.came.cluster_stays so_far.came.promotions_stay _ _ _ (g.met.V.Watcher.stopped_later _ _ _) _ so_far.source.over
+    (g.V.Watcher.stopped c.args.watcher.now c.make_transition.new.watcher) (c.loop-made.made + 1) _
+    (ends_behind _ _ _ (g.met.V.Watcher.from_before _ _ _) _ _ _ _ _ _ _ _ so_far.came.came _ _ so_far.came.cluster_stays so_far.came.promotions_stay _ _ _ (g.met.V.Watcher.stopped_later _ _ _) _ _ so_far.source.over
     (rw (so_far.source.whole, so_far.source.steady) at c.in-Err.ensures.ends))
 
 pub returns-in-Err-clause-agrees : goal.returns-in-Err-clause-agrees
@@ -106,7 +107,7 @@ returns-in-Err-clause-shown g c h =
     (c.in-Err.ensures.shown_at_end (rw (so_far.came.cluster_stays, so_far.came.promotions_stay) (so_far.shown h)))
 
 pub returns-in-Err-clause-answers : goal.returns-in-Err-clause-answers
-returns-in-Err-clause-answers g c = not_most _ _ _ _ _ _ c.in-Err.ended _ _ _ c.in-Err.ensures.ends
+returns-in-Err-clause-answers g c = not_most _ _ _ _ _ _ _ c.in-Err.ended _ _ _ c.in-Err.ensures.ends
 
 -- as many transitions were made as are allowed
 

@@ -1,16 +1,18 @@
-use Rattle.std.proofs.Common.{◌≡◌, drop, sym, refl}
+use Rattle.std.proofs.Common.{arith, ◌≡◌, [], drop, take, refl}
+use Rattle.std.proofs.lemmas.List.{drop_all, length-take-le}
 use Rattle.listed.specs.Sets.{members}
-use Rattle.trace_text.proofs.FirstMembers.{first_from_one, first_to_most, without_first}
+use Rattle.trace_text.proofs.Places.{next_told}
 use Rattle.trace_text.proofs.walk.Predecessors.next.Goals as goal
 
-pub remove-requires-clause-from_one : goal.remove-requires-clause-from_one
-remove-requires-clause-from_one c = first_from_one c.self.inside.found.actions c.in_ok-number.number (sym c.in_ok-number.ensures)
+pub returns-then-self : goal.returns-then-self
+returns-then-self c =
+    let p = c.self.inside in
+    let size = length-take-le p.count (members p.found) c.self.invariant.few in
+    let none : drop p.told (take p.count (members p.found)) ≡ [] = drop_all p.told (take p.count (members p.found)) (omega (arith, size, c.if-self.true)) in
+    record { next = rw (← c.self.view_is, none) refl; left = rw (← c.self.view_is, none) refl }
 
-pub remove-requires-clause-to_most : goal.remove-requires-clause-to_most
-remove-requires-clause-to_most c = first_to_most c.self.inside.found.actions c.in_ok-number.number (sym c.in_ok-number.ensures)
-
-pub returns-clause-left : goal.returns-clause-left
-returns-clause-left c =
-    let left : members c.remove.new.self ≡ drop 1 (members c.self.inside.found.actions)
-    = rw c.remove.ensures (without_first c.self.inside.found.actions c.in_ok-number.number (sym c.in_ok-number.ensures)) in
-    rw (← c.self.view_is, left) refl
+pub returns : goal.returns
+returns c =
+    let p = c.self.inside in
+    let next = next_told (members p.found) p.count p.told c.nth-number.result c.if-self.false c.self.invariant.few c.nth-number.ensures in
+    record { next = rw (← c.self.view_is, next) refl; left = rw (← c.self.view_is, next) refl }

@@ -1,9 +1,9 @@
 use Rattle.std.proofs.Common.{◌≡◌, length}
 use Rattle.listed.specs.Sets.{members}
-use Rattle.trace_text.proofs.found_actions.clear.Given as goal
+use Rattle.trace_text.proofs.found_positions.clear.Given as goal
 
 abbrev pub invariant-loop-number : goal.invariant-loop-number
-invariant-loop-number l = length l.set ≡ length l.fn.set
+invariant-loop-number l = length l.found ≡ length l.fn.found
 
 abbrev pub decreases-loop-number : goal.decreases-loop-number
-decreases-loop-number l = length (members l.set)
+decreases-loop-number l = length (members l.found)
