@@ -3,8 +3,8 @@
 use crate::starts::{TWO, start_of};
 use crate::transitions::script_of;
 use crate::watching::{Follower, Line};
-use cluster_types::{Answer, Journal};
-use graph_exec::{Failing, Outcomes, ReplayStop, replay_watched};
+use cluster_types::{Answer, Journal, Run as KeptRun};
+use graph_exec::{Failing, Outcomes, ReplayStop, replay, replay_watched};
 use std::alloc::Global;
 use std::process::Abort;
 
@@ -174,4 +174,21 @@ fn a_fault_breaks_a_run_off(rt: HostRuntime) {
     let alloc = rt.alloc();
     let mut source = Failing::new(Vec::new(alloc), [2].to_vec(alloc).expect(&rt, "memory"));
     follow(&rt, alloc, &mut source, BROKEN_OFF);
+}
+
+/// One transition was made and is kept, and another is due.
+fn has_made_most(made: &Result<KeptRun, ReplayStop<KeptRun>>) -> bool {
+    match made {
+        Err(ReplayStop::Most(run)) => run.passed.len() == 1,
+        _ => false,
+    }
+}
+
+#[test]
+fn a_kept_run_ends_where_no_more_transitions_are_allowed(rt: HostRuntime) {
+    let alloc = rt.alloc();
+    let (cluster, journal) = start_of(&rt, alloc, RUNNING);
+    let mut script = script_of(&rt, alloc, &[Answer::Lost { node: 1 }]);
+    let made = replay(alloc, &cluster, journal, &mut script, 1);
+    assert!(rt; has_made_most(&made));
 }

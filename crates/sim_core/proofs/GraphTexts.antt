@@ -1,7 +1,7 @@
 -- Where two relations agree on numbers, the text of a graph is the same.
-use Rattle.std.proofs.Common.{◌≡◌, ℕ, Bool, List, [], ◌∷◌, ◌++◌, codes, length, filter, refl, ap, ◌∙◌}
+use Rattle.std.proofs.Common.{◌≡◌, ℕ, Bool, List, [], ◌∷◌, ◌++◌, codes, length, refl, ap, ◌∙◌}
 use Rattle.std.specs.Fmt.{decimal}
-use Rattle.std.specs.List.{enumerate_from, flat_map, range_with_len}
+use Rattle.std.specs.List.{enumerate_from, flat_map}
 use Rattle.lemmas.proofs.Ranges.{filter-alike}
 use Rattle.cluster_types.specs.declared.cluster.Cluster.{Cluster}
 use Rattle.cluster_types.specs.declared.journal.Action.{Action}

@@ -1,5 +1,5 @@
 -- The runs that `world` writes and `gen` sums up are safe.
-use Rattle.std.proofs.Common.{◌≡◌, ℕ, true, Option, Some, None, List}
+use Rattle.std.proofs.Common.{ℕ, true, Option, Some, None, List}
 use Rattle.cluster_types.specs.declared.journal.Answer.{Answer}
 use Rattle.cluster_types.specs.declared.run.RunLine.{RunLine}
 use Rattle.cluster_types.specs.Runs.{RunStanding, due, Runs, journal_at}

@@ -1,6 +1,6 @@
 -- What an answer to the word `replay` says of its input, of what was read of it, and of what was written, while the one goes on with the other (rules of
 -- this project).
-use Rattle.std.specs.Prelude.{◌≡◌, ℕ, ◌-◌, ◌<◌, Option, Some, List, [], ◌++◌, length, IfSome}
+use Rattle.std.specs.Prelude.{◌≡◌, ℕ, ◌-◌, ◌<◌, Option, List, [], ◌++◌, length, IfSome}
 use Rattle.cluster_io.specs.Readings.{Reading}
 use Rattle.cluster_io.specs.Streams.{Adds, AddsPrefix}
 use Rattle.cluster_types.specs.declared.cluster.Cluster.{Cluster}
@@ -14,7 +14,7 @@ use Rattle.sim_core.specs.declared.status.Status.{Status}
 use Rattle.sim_core.specs.declared.status.Status.TheVariants.{Done, NoMemory, Usage, ReadFault, WriteFault, Refused, Unexpected, TooLarge, NotLawful}
 use Rattle.input_reading.specs.Causes.{refusal_text}
 use Rattle.input_reading.specs.Reading.{longest_line, most_bytes}
-use Rattle.sim_core.specs.Replay.{IsHeadRead, IsHeadFault, IsReplayOutput, head_in}
+use Rattle.sim_core.specs.Replay.{IsHeadRead, IsHeadFault, IsReplayOutput}
 
 -- reading stopped amid the head: behind each of the lines that were taken whole the head goes on, and what is held gives no answer yet
 pub record IsAmidHead (input : List ℕ) (left : Option (List ℕ)) : Type 0 where

@@ -1,7 +1,6 @@
 -- An auditor has come from itself, and from what it came from on the way. No public clause cites this module.
-use Rattle.std.proofs.Common.{◌≡◌, Option, Some, None, List, [], ◌++◌, length, take, append-nil, append_assoc, refl, sym, ap, subst, ◌∙◌, ◌≤◌}
+use Rattle.std.proofs.Common.{Option, Some, None, List, [], ◌++◌, take, append-nil, append_assoc, refl, sym, ap, ◌∙◌}
 use Rattle.cluster_types.specs.declared.run.RunLine.{RunLine}
-use Rattle.input_reading.specs.declared.run.text.RunTextLine.{RunTextLine}
 use Rattle.sim_core.specs.declared.auditor.Auditor.{Auditor}
 use Rattle.sim_core.specs.Inner.Auditors.{PassesLines, HasSaidStop, StopsAtLine, audited_lines}
 

@@ -1,4 +1,4 @@
-use Rattle.std.proofs.Common.{◌≡◌, ap, arith}
+use Rattle.std.proofs.Common.{ap, arith}
 use Rattle.cluster_io.specs.LineReaders.{reading_of, source_of}
 use Rattle.cluster_io.specs.Readings.{Reading}
 use Rattle.sim_core.proofs.Beginnings.{faulty_read, stops}

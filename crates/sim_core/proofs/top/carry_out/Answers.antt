@@ -21,6 +21,9 @@ returns-in-Why-clause-status g c = rw c.in-Why.is c.with_input-in-Why.ensures.st
 pub returns-in-Graph-clause-status : goal.returns-in-Graph-clause-status
 returns-in-Graph-clause-status g c = rw c.in-Graph.is c.with_input-in-Graph.ensures.status
 
+pub returns-in-Survive-clause-status : goal.returns-in-Survive-clause-status
+returns-in-Survive-clause-status g c = rw c.in-Survive.is c.with_input-in-Survive.ensures.status
+
 pub returns-in-Audit-clause-status : goal.returns-in-Audit-clause-status
 returns-in-Audit-clause-status g c = rw c.in-Audit.is c.with_input-in-Audit.ensures.status
 

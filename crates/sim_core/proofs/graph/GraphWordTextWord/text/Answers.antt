@@ -1,4 +1,4 @@
-use Rattle.std.proofs.Common.{◌≡◌, ◌∙◌, ℕ}
+use Rattle.std.proofs.Common.{◌∙◌}
 use Rattle.cluster_types.specs.Graphs.{is_before}
 use Rattle.cluster_types.specs.Plans.{precedes_by_number}
 use Rattle.cluster_types.specs.Steps.{numbered}
