@@ -1,21 +1,17 @@
 -- The target lines from a place on: that of the place, and then those from the place behind it.
-use Rattle.std.proofs.Common.{arith, ◌≡◌, ◌⊎◌, inl, inr, ◌<◌, ◌≤◌, ◌+◌, ◌*◌, ◌-◌, if◌then◌else◌, nat_lt, ℕ, zero, suc, Bool, true, false, Option, List, [], ◌∷◌, ◌++◌, length, append_assoc, refl, sym, ap, ◌∙◌}
+use Rattle.std.proofs.Common.{arith, ◌≡◌, ◌⊎◌, inl, inr, ◌<◌, ◌≤◌, ◌+◌, ◌*◌, ◌-◌, if◌then◌else◌, nat_lt, ℕ, zero, suc, Bool, true, false, Option, List, [], ◌++◌, length, append_assoc, refl, sym, ap, ◌∙◌}
 use Rattle.std.specs.List.{flat_map, range_with_len}
 use Rattle.std.proofs.lemmas.Bool.{cases_lt, lt-ltb, le-ltb}
 use Rattle.cluster_types.specs.declared.cluster.Cluster.{Cluster}
 use Rattle.cluster_types.specs.declared.placement.NoReason.{NoReason}
 use Rattle.cluster_types.specs.declared.placement.Pin.{Pin}
-use Rattle.cluster_types.specs.declared.placement.Placed.{Placed}
 use Rattle.cluster_types.specs.declared.placement.Target.{Target}
 use Rattle.cluster_types.specs.declared.run.RunLine.{RunLine}
-use Rattle.cluster_types.specs.Tables.{targets_of}
 use Rattle.cluster_types.specs.Texts.{goal_lines, leaf_lines, target_lines}
 use Rattle.trace_text.specs.declared.target_walk.LineColumn.{LineColumn}
 use Rattle.trace_text.specs.declared.target_walk.LineColumn.TheVariants as column
-use Rattle.trace_text.specs.declared.run_line_ref.RunLineRef.{RunLineRef}
 use Rattle.trace_text.specs.declared.target_walk.LinePlace.{LinePlace}
-use Rattle.trace_text.specs.RunLines.{lent_line}
-use Rattle.trace_text.specs.Inner.TargetWalk.{all_lines_from, goal_lines_from, leaf_lines_from, lines_from, lines_in, next_place, places_left, reason_lines, target_lines_from}
+use Rattle.trace_text.specs.Inner.TargetWalk.{all_lines_from, goal_lines_from, leaf_lines_from, lines_in, next_place, places_left, reason_lines, target_lines_from}
 
 range_more : {X : Type 0} (f : ℕ → List X) (from to : ℕ) → from < to → flat_map f (range_with_len from (to - from)) ≡ f from ++ flat_map f (range_with_len (from + 1) (to - (from + 1)))
 range_more f from to lt =
@@ -84,20 +80,10 @@ module _ (c : Cluster) (pins : List (Option Pin)) (targets : ℕ → ℕ → Tar
     walk_on column.Reason =
         lines_there r column.Reason lt ∙ ap (λ (ls : List RunLine). reason_lines c pins targets none r ++ ls) (sym (next_leaf (r + 1)))
 
-  -- no line stands at the place, or this one does
-  module _ (at : LinePlace) (lt : at.leaf < length c.leaves) where
-    pub walk_none : lines_in c pins targets none at.leaf at.column ≡ []
-        → target_lines_from c pins targets none at ≡ target_lines_from c pins targets none (next_place c at)
-    walk_none empty = walk_on at.leaf lt at.column ∙ ap (λ (ls : List RunLine). ls ++ target_lines_from c pins targets none (next_place c at)) empty
-
-    pub walk_found : (found : RunLineRef) → lines_in c pins targets none at.leaf at.column ≡ lent_line found ∷ []
-        → target_lines_from c pins targets none at ≡ lent_line found ∷ target_lines_from c pins targets none (next_place c at)
-    walk_found found one = walk_on at.leaf lt at.column ∙ ap (λ (ls : List RunLine). ls ++ target_lines_from c pins targets none (next_place c at)) one
-
--- all lines of a placement
-pub lines_first : (c : Cluster) (placed : Placed) → lines_from c placed (record { leaf = 0; column = column.Pin })
-    ≡ target_lines c placed.pins (targets_of placed.table) placed.none
-lines_first c placed = all_lines_first c placed.pins (targets_of placed.table) placed.none
+  -- the lines at the place, of which there may be none, and those from the place behind it
+  pub walk_from : (at : LinePlace) (here : List RunLine) → at.leaf < length c.leaves → lines_in c pins targets none at.leaf at.column ≡ here
+      → target_lines_from c pins targets none at ≡ here ++ target_lines_from c pins targets none (next_place c at)
+  walk_from at here lt is = walk_on at.leaf lt at.column ∙ ap (λ (ls : List RunLine). ls ++ target_lines_from c pins targets none (next_place c at)) is
 
 one_row : (n width : ℕ) → suc n * width ≡ width + n * width
 one_row n width = omega arith
