@@ -2,7 +2,7 @@
 
 ghost use Rattle.std.specs.Prelude.{◌≡◌, ◌<◌, ◌^◌, true};
 ghost use Rattle.cluster_types.specs.Journals.{moment_of};
-ghost use Rattle.cluster_types.specs.Safety.{IsAtRest, IsSafeRun};
+ghost use Rattle.cluster_types.specs.Safety.{IsAtRest};
 ghost use Rattle.cluster_types.specs.Valid.{IsValid};
 ghost use Rattle.graph_exec.specs.KeptRuns.{KeepsAs, KeepsPlans, kept_word};
 ghost use Rattle.graph_exec.specs.LastWords.{SourceLasts};
@@ -41,7 +41,6 @@ pub fn replay<S: Outcomes>(
     ensures run { KeepsAs cluster.now journal.promotions (S.whole outcomes.old) (S.steady outcomes.old) journal.events
         (S.rest outcomes.old) (S.rest outcomes.new) most result }
     ensures plans { OfMade (KeepsPlans cluster.now journal.promotions most) result }
-    ensures safe { IsSafeRun cluster.now journal.promotions (S.whole outcomes.old) journal.events (S.rest outcomes.old) }
     ensures kept { OfMade (λ run. IsJournalKept journal.promotions run.journal) result }
 
     // What became of the source.

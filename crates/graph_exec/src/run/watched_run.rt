@@ -2,7 +2,7 @@
 
 ghost use Rattle.std.specs.Prelude.{◌≡◌, ◌<◌, ◌^◌, true};
 ghost use Rattle.cluster_types.specs.Journals.{moment_of};
-ghost use Rattle.cluster_types.specs.Safety.{IsAtRest, IsSafeRun};
+ghost use Rattle.cluster_types.specs.Safety.{IsAtRest};
 ghost use Rattle.cluster_types.specs.Valid.{IsValid};
 ghost use Rattle.graph_exec.specs.Counts.{AreMostAnswered};
 ghost use Rattle.graph_exec.specs.LastWords.{SourceLasts, WatcherLasts};
@@ -44,7 +44,6 @@ pub fn replay_watched<S: Outcomes, V: Watcher>(
         (setting cluster.now journal.promotions (S.whole outcomes.old) (S.steady outcomes.old)) journal.events
         (sight (S.rest outcomes.old) (S.over outcomes.old))
         (sight (S.rest outcomes.new) (S.over outcomes.new)) most result }
-    ensures safe { IsSafeRun cluster.now journal.promotions (S.whole outcomes.old) journal.events (S.rest outcomes.old) }
     ensures kept { OfMade (IsJournalKept journal.promotions) result }
 
     // What became of the source.

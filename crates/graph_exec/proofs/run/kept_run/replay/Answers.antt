@@ -11,9 +11,6 @@ use Rattle.graph_exec.proofs.run.kept_run.replay.Goals as goal
 pub returns-in_default-clause-source : goal.returns-in_default-clause-source
 returns-in_default-clause-source g c = source_open g.S.Outcomes _ _ _ (source_same g.S.Outcomes g.met.S.Outcomes.from_itself _)
 
-pub returns-in_default-clause-safe : goal.returns-in_default-clause-safe
-returns-in_default-clause-safe g c = safe_run _ _ _ c.requires.valid _ _ c.requires.at_rest
-
 -- one transition after the other
 
 pub loop-made-init : goal.loop-made-init
@@ -63,9 +60,6 @@ returns-in-Err-clause-plans g c =
     rw c.kept.ensures
     (kept_plans _ _ _ _ _ _ (omega arith) c.in-Err.end ((rw (so_far.cluster_stays, so_far.promotions_stay, so_far.source.whole, so_far.source.steady) at c.in-Err.ensures.ends) _ _ so_far.keeps))
 
-pub returns-in-Err-clause-safe : goal.returns-in-Err-clause-safe
-returns-in-Err-clause-safe g c = safe_run _ _ _ c.requires.valid _ _ c.requires.at_rest
-
 pub returns-in-Err-clause-kept : goal.returns-in-Err-clause-kept
 returns-in-Err-clause-kept g c =
     let so_far = c.loop-made.invariant in
@@ -102,9 +96,6 @@ returns-clause-plans g c =
     let so_far = c.loop-made.invariant in
     let all_before = so_far.all in
     most_plans _ _ _ _ _ _ c.loop-made.known so_far.keeps _ (omega arith) _ c.into_journal-journal.ensures
-
-pub returns-clause-safe : goal.returns-clause-safe
-returns-clause-safe g c = safe_run _ _ _ c.requires.valid _ _ c.requires.at_rest
 
 pub returns-clause-kept : goal.returns-clause-kept
 returns-clause-kept g c =

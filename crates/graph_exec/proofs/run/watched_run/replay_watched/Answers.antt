@@ -11,9 +11,6 @@ use Rattle.graph_exec.proofs.run.watched_run.replay_watched.Goals as goal
 pub returns-in_default-clause-run : goal.returns-in_default-clause-run
 returns-in_default-clause-run g c = nothing_made _ _ (g.met.V.Watcher.from_itself _) _ _ _ _
 
-pub returns-in_default-clause-safe : goal.returns-in_default-clause-safe
-returns-in_default-clause-safe g c = safe_run _ _ _ c.requires.valid _ _ c.requires.at_rest
-
 pub returns-in_default-clause-source : goal.returns-in_default-clause-source
 returns-in_default-clause-source g c = source_same g.S.Outcomes g.met.S.Outcomes.from_itself _
 
@@ -71,9 +68,6 @@ returns-in-Err-clause-run g c =
     replays _ _ _ _ _ _ (c.loop-made.made + 1) _ within _ (ends_behind _ _ _ (g.met.V.Watcher.from_before _ _ _) _ _ _ _ _ _ _ _ so_far.came.came _ _ so_far.came.cluster_stays so_far.came.promotions_stay _ _ _ (g.met.V.Watcher.stopped_later _ _ _) _ _ so_far.source.over
     (rw (so_far.source.whole, so_far.source.steady) at c.in-Err.ensures.ends))
 
-pub returns-in-Err-clause-safe : goal.returns-in-Err-clause-safe
-returns-in-Err-clause-safe g c = safe_run _ _ _ c.requires.valid _ _ c.requires.at_rest
-
 pub returns-in-Err-clause-kept : goal.returns-in-Err-clause-kept
 returns-in-Err-clause-kept g c =
     let so_far = c.loop-made.invariant in
@@ -116,9 +110,6 @@ returns-clause-run g c =
     let so_far = c.loop-made.invariant in
     let all : c.loop-made.made ≡ c.args.most = omega arith in
     up_to _ _ _ _ _ _ _ _ _ (ap events_in c.into_journal.ensures) (rw all at so_far.came.came)
-
-pub returns-clause-safe : goal.returns-clause-safe
-returns-clause-safe g c = safe_run _ _ _ c.requires.valid _ _ c.requires.at_rest
 
 pub returns-clause-kept : goal.returns-clause-kept
 returns-clause-kept g c =
