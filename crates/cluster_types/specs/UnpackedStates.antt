@@ -1,11 +1,10 @@
 -- What a journal tells of a cluster, put together: the states of its nodes and cells, failures that stop a leaf everywhere, quorum and the moment
 -- (follows from the definitions that it puts together).
-use Rattle.std.specs.Prelude.{ℕ, ◌^◌, if◌then◌else◌, List, length, map, sum_by}
-use Rattle.std.specs.List.{enumerate_from, flat_map, range_with_len}
+use Rattle.std.specs.Prelude.{ℕ, ◌+◌, ◌*◌, Bool, if◌then◌else◌, List, [], ◌∷◌, length, map}
+use Rattle.std.specs.List.{flat_map, range_with_len}
 use Rattle.cluster_types.specs.declared.cluster.Cluster.{Cluster}
 use Rattle.cluster_types.specs.declared.journal.Event.{Event}
 use Rattle.cluster_types.specs.declared.journal.Promotion.{Promotion}
-use Rattle.cluster_types.specs.declared.leaf.Monitor.{Monitor}
 use Rattle.cluster_types.specs.declared.states.Cell.{Cell}
 use Rattle.cluster_types.specs.declared.states.States.{States}
 use Rattle.cluster_types.specs.CellStates.{cell_state, is_monitor_running}
@@ -15,15 +14,12 @@ use Rattle.cluster_types.specs.Journals.{has_quorum, moment_of}
 use Rattle.cluster_types.specs.May.{may_be_running, may_be_promoted}
 use Rattle.cluster_types.specs.NodeStates.{node_state}
 
+-- yes and no as the bits of a number, the first as the lowest
+abbrev pub as_bits : List Bool → ℕ
+as_bits [] = 0
+as_bits (b ∷ bs) = (if b then 1 else 0) + 2 * as_bits bs
+
 module _ (c : Cluster) (es : List Event) where
-  -- bit i, where monitor i is running
-  abbrev pub running_bit : ℕ → ℕ → ℕ × Monitor → ℕ
-  running_bit r n numbered = if is_monitor_running r n numbered.1.interval_ms es then 2 ^ numbered.0 else 0
-
-  -- the monitors that are running, as the sum of their bits
-  abbrev pub running_bits : ℕ → ℕ → ℕ
-  running_bits r n = sum_by (running_bit r n) (enumerate_from 0 (monitors c r))
-
   -- what is known of leaf r on node n
   abbrev pub cell_at : ℕ → ℕ → Cell
   cell_at r n = record {
@@ -31,7 +27,7 @@ module _ (c : Cluster) (es : List Event) where
     may = may_be_running c r n es;
     may_promoted = may_be_promoted c r n es;
     banned = is_banned c r n es;
-    running = running_bits r n;
+    running = as_bits (map (λ m. is_monitor_running r n m.interval_ms es) (monitors c r));
   }
 
   -- all that is known. The cells stand leaf by leaf, node by node

@@ -31,7 +31,7 @@ use Rattle.planner.proofs.Harmless.{free_of, is_free_where}
 use Rattle.planner.proofs.SentFrom.{is_sent_from, sent_from}
 use Rattle.planner.proofs.StepTests.{has_it, it_is}
 use Rattle.planner.proofs.StepsGot.{Tells, any_got, gets, gets_any, got}
-use Rattle.planner.proofs.Watches.{bits_are, needs_it, runs, wanted_is}
+use Rattle.planner.proofs.Watches.{needs_it, runs, wanted_is}
 
 abbrev leaf_of : Action → ℕ
 leaf_of (Operation o r n interval role) = r
@@ -124,7 +124,6 @@ module _ (c : Cluster) (es : List Event) (targets : Targets) where
         ≡ (if is_pinned c es r then [] else filter (needs_it (targets r n) (is_filled (steps_in need marked r n)) (runs c es r n)) (monitors c r))
     watched_by r n lr ln =
         ap (λ (w : CellNeed). if w.pinned then [] else wanted w.target (is_filled (steps_in need marked r n)) w.running (monitors c r)) (told.needs r n lr ln)
-        ∙ ap (λ left. if is_pinned c es r then [] else wanted (targets r n) (is_filled (steps_in need marked r n)) left (monitors c r)) (bits_are c es r n)
         ∙ ap (λ ms. if is_pinned c es r then [] else ms) (wanted_is (targets r n) (is_filled (steps_in need marked r n)) (runs c es r n) (monitors c r))
 
     watch_in : (r n : ℕ) (m : MonitorOf) → r < length c.leaves → n < length c.nodes → Contains (monitors c r) m → NeedsMonitor c es targets r n m

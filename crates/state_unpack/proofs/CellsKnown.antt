@@ -1,9 +1,9 @@
 -- What is known of cells and nodes is what the events tell, where what is kept is what they tell.
-use Rattle.std.proofs.Common.{◌≡◌, ℕ, suc, zero, ◌+◌, ◌*◌, ◌^◌, ◌<◌, ◌≤◌, nat_lt, nat_le, Bool, true, false, not, ◌&&◌, if◌then◌else◌, is_some, is_none, Option, Some, None, unwrap_or, List, [], ◌∷◌, length, map, slice_get, sum_by, refl, ap, ◌∙◌, arith}
+use Rattle.std.proofs.Common.{◌≡◌, ℕ, suc, zero, ◌+◌, ◌*◌, ◌<◌, ◌≤◌, nat_lt, nat_le, Bool, true, false, not, ◌&&◌, if◌then◌else◌, is_some, is_none, Option, Some, None, unwrap_or, List, [], ◌∷◌, length, map, slice_get, refl, ap, ◌∙◌, arith}
 use Rattle.std.proofs.lemmas.Bool.Decides.{nat_tests}
 use Rattle.std.proofs.lemmas.List.FromFn.{get_or-map-range_with_len, length-map-range_with_len}
 use Rattle.std.proofs.lemmas.Option.{slice_get-get_or, slice_get_within, get_or_from_slice_get}
-use Rattle.std.specs.List.{list_all, list_any, last_or, enumerate_from, flat_map, range_with_len}
+use Rattle.std.specs.List.{list_all, list_any, last_or, flat_map, range_with_len}
 use Rattle.std.specs.Option.{option_map, option_map_or}
 use Rattle.std.proofs.lemmas.Bool.{and_parts}
 use Rattle.lemmas.proofs.Ranges.{map-same, any-same, flat_map-same}
@@ -17,7 +17,7 @@ use Rattle.cluster_types.specs.Failures.{failures_in_force, counted, is_forgotte
 use Rattle.cluster_types.specs.Fields.{failure_timeout, monitors}
 use Rattle.cluster_types.specs.Journals.{NodeSign, joined, went_down, was_lost, was_fenced, moment_of, last_sign}
 use Rattle.cluster_types.specs.NodeStates.{node_state, state_by, is_online_state, is_online_in, is_online, is_to_blame}
-use Rattle.cluster_types.specs.UnpackedStates.{cell_at}
+use Rattle.cluster_types.specs.UnpackedStates.{as_bits, cell_at}
 use Rattle.cluster_types.specs.Valid.{IsValid}
 use Rattle.state_unpack.specs.Tally.{tally_of}
 use Rattle.state_unpack.specs.Inner.Tally.{tally_counted, has_passed}
@@ -50,7 +50,7 @@ module _ (c : Cluster) (r n : ℕ) (es : List Event) where
 
 -- the bits of the monitors that are running
 bits-is : (running : Monitor → Bool) (ms : List Monitor) → length ms ≤ 8
-    → bits_of (map (λ i. option_map_or running (slice_get ms i) false) (range_with_len 0 8)) ≡ sum_by (λ (p : ℕ × Monitor). if running p.1 then 2 ^ p.0 else 0) (enumerate_from 0 ms)
+    → bits_of (map (λ i. option_map_or running (slice_get ms i) false) (range_with_len 0 8)) ≡ as_bits (map running ms)
 bits-is running [] few = refl
 bits-is running (a ∷ []) few = omega arith
 bits-is running (a ∷ b ∷ []) few = omega arith

@@ -1,6 +1,6 @@
 //! What is known of a cell, by what is kept of it.
 
-ghost use Rattle.std.specs.Prelude.{◌≡◌, ◌≤◌, if◌then◌else◌};
+ghost use Rattle.std.specs.Prelude.{◌≡◌, ◌≤◌, ◌*◌, if◌then◌else◌};
 ghost use Rattle.state_unpack.specs.Inner.CellsKept as spec;
 
 use crate::Tally;
@@ -8,7 +8,7 @@ use crate::facts::Facts;
 use cluster_types::{Cell, CellState, Cluster, LeafId};
 
 fn bit(on: bool, bit: u8) -> u8
-    ensures value { result ≡ (if on then bit else 0) }
+    ensures value { result ≡ bit * (if on then 1 else 0) }
     ensures high { result ≤ bit }
 {
     if on { bit } else { 0 }

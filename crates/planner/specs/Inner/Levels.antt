@@ -13,7 +13,7 @@ use Rattle.cluster_types.specs.NeededActions.{can_cycle, steps_of}
 use Rattle.cluster_types.specs.Numbers.{rank, step_of}
 use Rattle.cluster_types.specs.Pins.{is_pinned}
 use Rattle.cluster_types.specs.Tables.{Targets}
-use Rattle.cluster_types.specs.UnpackedStates.{running_bits}
+use Rattle.cluster_types.specs.UnpackedStates.{cell_at}
 use Rattle.planner.specs.CycledCells.{MarkedCells, is_cycling}
 use Rattle.planner.specs.declared.needed_actions.steps.CellNeed.{CellNeed}
 
@@ -38,7 +38,7 @@ module _ (c : Cluster) (es : List Event) (targets : Targets) where
   need_at r n = record {
     state = cell_state c r n es;
     may = may_be_running c r n es;
-    running = running_bits c es r n;
+    running = (cell_at c es r n).running;
     target = targets r n;
     pinned = is_pinned c es r;
     can_cycle = can_cycle c es targets r n;

@@ -1,5 +1,5 @@
 -- What is known of cells and nodes, by what is kept of them (follows from the definitions of what is known).
-use Rattle.std.specs.Prelude.{ℕ, ◌^◌, ◌&&◌, ◌||◌, not, Bool, false, if◌then◌else◌, Option, None, List, length, map, get_or, slice_get, sum_by, unwrap_or}
+use Rattle.std.specs.Prelude.{ℕ, ◌&&◌, ◌||◌, not, Bool, false, if◌then◌else◌, Option, None, List, length, map, get_or, slice_get, unwrap_or}
 use Rattle.std.specs.List.{flat_map, list_any, range_with_len}
 use Rattle.std.specs.Option.{option_map_or}
 use Rattle.cluster_types.specs.declared.cluster.Cluster.{Cluster}
@@ -10,6 +10,7 @@ use Rattle.cluster_types.specs.declared.states.Cell.{Cell}
 use Rattle.cluster_types.specs.declared.states.CellState.{CellState}
 use Rattle.cluster_types.specs.declared.states.CellState.TheVariants as cell
 use Rattle.cluster_types.specs.Fields.{is_promotable}
+use Rattle.cluster_types.specs.UnpackedStates.{as_bits}
 use Rattle.state_unpack.specs.declared.tally.Tally.{Tally}
 use Rattle.state_unpack.specs.Inner.Tally.{tally_counted, bans}
 use Rattle.cluster_types.specs.declared.states.NodeState.{NodeState}
@@ -21,9 +22,9 @@ use Rattle.state_unpack.specs.Inner.Facts.{no_facts}
 use Rattle.state_unpack.specs.KeptCells.{cell_in}
 use Rattle.state_unpack.specs.Inner.Signs.{state_by_sign}
 
--- the sum of the bits of the monitors that are running
+-- the bits of the monitors that are running
 abbrev pub bits_of : List Bool → ℕ
-bits_of running = sum_by (λ i. if get_or running i false then 2 ^ i else 0) (range_with_len 0 8)
+bits_of running = as_bits (map (λ i. get_or running i false) (range_with_len 0 8))
 
 -- the failures of a cell that count at a moment
 abbrev pub counted_of : Cluster → ℕ → ℕ → Facts → Tally
