@@ -62,14 +62,14 @@ module _ (c : Cluster) (es : List Event) (in_flight : List (ℕ × Action)) wher
   abbrev pub is_quiet_cell : ℕ → ℕ → Bool
   is_quiet_cell r n = not (list_any (λ (p : ℕ × Action). is_of_cell r n p.1 || is_sent_to r n p.1) in_flight)
 
-  -- the report says something new: the node and the leaf are there, the interval is above 0, the node is online, the leaf may run there, the code is bad
-  -- and not ignored, and the cell is quiet
+  -- the report tells a failure that may be told: the node and the leaf are there, the interval is above 0, the node is online, the leaf may run there, the
+  -- code is bad and not ignored, and the cell is quiet
   abbrev pub tells_news : ℕ → ℕ → ℕ → ℕ → Bool
   tells_news n r interval code =
       nat_lt n (length c.nodes) && nat_lt r (length c.leaves) && nat_lt 0 interval && is_online c n es && may_be_running c r n es
       && is_bad (monitor_action c r n interval) (Code code) && not (is_ignored c (monitor_action c r n interval) (Code code)) && is_quiet_cell r n
 
-  -- the answer applies, when so many from outside were taken. No wait leads to moment 2 ^ 40 (in seconds): a greater number of seconds can't be read
+  -- the answer applies, when so many from outside were taken. A wait by which the moment would reach 2 ^ 40 seconds doesn't apply
   abbrev pub applies_after : ℕ → Answer → Bool
   applies_after taken (answer.End k code) = is_in_flight k
   applies_after taken (answer.Timeout k) = is_in_flight k

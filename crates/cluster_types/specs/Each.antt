@@ -1,4 +1,4 @@
--- What "for each .. that .., .." is made of: the one test passes wherever the other does.
+-- What "for each .. that .., .." is made of: where the first test passes, so does the second.
 use Rattle.std.specs.Prelude.{◌||◌, Bool, not}
 
 abbrev pub implies : Bool → Bool → Bool

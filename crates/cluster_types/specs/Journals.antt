@@ -92,7 +92,7 @@ pub data NodeSaid : Type 0 where
   unclean : NodeSaid
   unsaid : NodeSaid
 
--- the event is of the kind that a status tells of a cluster with so many nodes: a probe or an operation of a cell ended, or the cell was cleaned up
+-- the event is an end of a probe or operation, or a cleanup, on a node that is there
 abbrev pub is_history_event : ℕ → Event → Bool
 is_history_event nodes (Ended k (Probe leaf node) o moment) = nat_lt node nodes
 is_history_event nodes (Ended k (Operation op leaf node interval role) o moment) = nat_lt node nodes

@@ -83,7 +83,7 @@ rank c s = chain_within c (4 * length c.leaves) s
 abbrev pub StepsHaveNoLoop : Cluster → Type 0
 StepsHaveNoLoop c = EdgesHaveNoLoop (IsStepLink c)
 
--- what is done at about the same time, in the order in which it is done
+-- the kinds of actions, in the order in which their numbers stand
 pub data NumberPhase : Type 0 where
   Fences : NumberPhase
   Probes : NumberPhase
@@ -123,7 +123,8 @@ place phase ranked r n interval = record { phase = phase; ranked = ranked; leaf 
 abbrev pub place_in_phase : NumberPhase → ℕ → ℕ → ℕ → ℕ → Place
 place_in_phase phase ranked r n interval = place (phase_position phase) ranked r n interval
 
--- the place of each action. What has no rank, leaf, node or interval has 0 there: only stops, demotes, starts and promotes have a rank
+-- the place of each action. What has no rank, leaf, node or interval has 0 there. Only stops, demotes, starts and promotes have a rank, but
+-- not the stop of a leaf that migrates
 abbrev pub action_place : Cluster → List Action → Action → Place
 action_place c actions (Fence n) = place_in_phase Fences 0 0 n 0
 action_place c actions (Probe r n) = place_in_phase Probes 0 r n 0

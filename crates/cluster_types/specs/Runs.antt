@@ -88,8 +88,8 @@ module _ (c : Cluster) (promotions : List Promotion) (whole : Bool) where
     pub over : IsOver last behind
     pub leaves : journal_now ≡ journal_at last
 
-  -- the run from a journal on up to a step at which an answer is asked for: its lines, the journal there, and the answers that weren't taken. While some are
-  -- left, no action has ended silently
+  -- the run from a journal on up to a step at which an answer is asked for: its lines, the journal there, and the answers that weren't taken. So while
+  -- some are left, no action has ended silently
   pub record IsRunSoFar (es : List Event) (rest : Option (List Answer)) (lines : List RunLine) (journal_now : List Event) (behind : Option (List Answer)) : Type 0 where
     pub last : RunStanding
     pub steps : Runs (due 1 es) rest lines last behind

@@ -73,7 +73,7 @@ module _ (Follows : List RunLine → Type 0) (Stopped : List RunLine → Option 
     pub told : Follows lines
     pub few : transitions_in lines ≤ most
 
-  -- what was made of the journal, by how the run ended
+  -- which run was made, and what the watcher was told of it, by how it ended
   abbrev pub ReplaysAs : Result Journal (ReplayStop Journal) → Type 0
   ReplaysAs (Ok journal) = IsTold journal with_all
   ReplaysAs (Err (stop.Unexpected journal given)) = IsTold journal (unexpected given)
