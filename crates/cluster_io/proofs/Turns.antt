@@ -5,7 +5,7 @@ use Rattle.std.proofs.lemmas.List.{append-nil, length-drop, length-take-le, take
 use Rattle.crm_lex.specs.RawLines.{physical_lines}
 use Rattle.cluster_io.specs.Streams.{TakesBytes}
 use Rattle.cluster_io.specs.NextLine.{reader_answer, first_line, holds_line}
-use Rattle.cluster_io.specs.Readings.{Reading, HandsOut, Leaves, nothing_came, more_came, ReaderAnswered, TellsAnswer}
+use Rattle.cluster_io.specs.Readings.{Reading, HandsOut, ReaderIsLeft, nothing_came, more_came, ReaderAnswered, TellsAnswer}
 use Rattle.cluster_io.specs.Inner.FoundLines.{Finds, FindsLast}
 use Rattle.cluster_io.specs.Inner.ReaderTurns.{GivesFound, Settles, ReadsOn, Sofar}
 use Rattle.cluster_io.specs.declared.line_scan.Scan.{Scan}
@@ -144,7 +144,7 @@ nothing_taken None = refl
 nothing_taken (Some left) = refl
 
 -- what an answer leaves doesn't tell which line was handed out before
-leaves_of : (step : LineStep) (old new : Reading) (ended : Bool) (raw : List ℕ) → Leaves step old new ended → Leaves step (record old { raw = raw }) new ended
+leaves_of : (step : LineStep) (old new : Reading) (ended : Bool) (raw : List ℕ) → ReaderIsLeft step old new ended → ReaderIsLeft step (record old { raw = raw }) new ended
 leaves_of Line old new ended raw l = record { parts = l.parts; first = l.first; short = l.short; in_room = l.in_room; others = l.others }
 leaves_of End old new ended raw l = l
 leaves_of TooLong old new ended raw l = l

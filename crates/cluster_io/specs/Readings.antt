@@ -36,11 +36,11 @@ pub record HandsOut (old new : Reading) (ended : Bool) : Type 0 where
   }
 
 -- what an answer leaves of what was held. Only a line is handed out, and only of a line that is too long or too large no more is said
-abbrev pub Leaves : LineStep → Reading → Reading → Bool → Type 0
-Leaves Line old new ended = HandsOut old new ended
-Leaves End old new ended = (new ≡ record old { raw = []; ended = true }) × (old.held ≡ []) × (ended ≡ true)
-Leaves Failed old new ended = (new ≡ record old { raw = [] }) × (holds_line old.held ≡ false) × (ended ≡ false)
-Leaves step old new ended = new ≡ record old { raw = []; stop = Some step; ended = ended }
+abbrev pub ReaderIsLeft : LineStep → Reading → Reading → Bool → Type 0
+ReaderIsLeft Line old new ended = HandsOut old new ended
+ReaderIsLeft End old new ended = (new ≡ record old { raw = []; ended = true }) × (old.held ≡ []) × (ended ≡ true)
+ReaderIsLeft Failed old new ended = (new ≡ record old { raw = [] }) × (holds_line old.held ≡ false) × (ended ≡ false)
+ReaderIsLeft step old new ended = new ≡ record old { raw = []; stop = Some step; ended = ended }
 
 -- these bytes came by reads, each of which was made where no whole line was held, and gave at least one byte and at most 4,096
 pub data CameBy (held : List ℕ) : List ℕ → Type 0 where
@@ -60,7 +60,7 @@ pub record ReaderAnswered (step : LineStep) (old new : Reading) (before after : 
   pub exact : step ≢ Failed → (rest : List ℕ) → (ended ≡ true → rest ≡ [])
       → step ≡ reader_answer old.room old.longest ((old.held ++ bytes) ++ rest)
   pub undecided : step ≡ Failed → IsUndecided old.room old.longest (old.held ++ bytes)
-  pub leaves : Leaves step (record old { held = old.held ++ bytes }) new ended
+  pub leaves : ReaderIsLeft step (record old { held = old.held ++ bytes }) new ended
 
 -- where the source tells its bytes, the answer is that of all bytes to come
 abbrev pub TellsAnswer : LineStep → Reading → Option (List ℕ) → Type 0

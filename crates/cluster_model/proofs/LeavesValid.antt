@@ -9,7 +9,7 @@ use Rattle.crm_parse.specs.declared.pair.Kv.{Kv}
 use Rattle.crm_parse.specs.declared.pair.Operation.{Operation}
 use Rattle.crm_parse.specs.declared.statement.Statement.{Statement}
 use Rattle.crm_lex.specs.Names.{is_name}
-use Rattle.crm_parse.specs.Monitors.{AreFew, recurring}
+use Rattle.crm_parse.specs.Monitors.{MayStandTogether, recurring}
 use Rattle.crm_parse.specs.Operations.{interval_of, recurs}
 use Rattle.crm_parse.specs.Inner.ReadForms.{IsRead}
 use Rattle.cluster_types.specs.declared.leaf.Monitor.{Monitor as MonitorOf}
@@ -38,7 +38,7 @@ record AreValid (monitors : List MonitorOf) : Type 0 where
   intervals : (m : MonitorOf) → Contains monitors m → 0 < m.interval_ms
   all_differ : AllPairs (λ (one other : MonitorOf). one.interval_ms ≢ other.interval_ms) monitors
 
-valid-by : (monitors : List MonitorOf) (intervals : List ℕ) → map (λ m. m.interval_ms) monitors ≡ intervals → AreFew intervals → AreValid monitors
+valid-by : (monitors : List MonitorOf) (intervals : List ℕ) → map (λ m. m.interval_ms) monitors ≡ intervals → MayStandTogether intervals → AreValid monitors
 valid-by monitors intervals e h =
     let interval : MonitorOf → ℕ = λ m. m.interval_ms in
     let many : length monitors ≡ length intervals = sym (length-map monitors interval) ∙ ap length e in
@@ -55,7 +55,7 @@ one-copy : {C : Type 0} (none : C) (clone : Option C) (copies : C → ℕ) → c
 one-copy none None copies h e = h
 one-copy none (Some clone) copies h e = cc
 
-leaf-valid : (statements : List Statement) (id : List ℕ) (meta : List Kv) (ops : List Operation) → is_name id ≡ true → AreFew (recurring ops)
+leaf-valid : (statements : List Statement) (id : List ℕ) (meta : List Kv) (ops : List Operation) → is_name id ≡ true → MayStandTogether (recurring ops)
     → IsValidLeaf (primitive_leaf (surroundings_of statements) id meta ops)
 unfolding primitive_leaf
 leaf-valid statements id meta ops n h =

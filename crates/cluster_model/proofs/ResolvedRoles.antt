@@ -7,7 +7,7 @@ use Rattle.cluster_types.specs.declared.rules.Colocation.{Colocation}
 use Rattle.cluster_types.specs.declared.rules.Location.{Location}
 use Rattle.cluster_types.specs.declared.rules.Order.{Order}
 use Rattle.cluster_types.specs.declared.rules.RuleLocation.{RuleLocation}
-use Rattle.cluster_types.specs.Valid.{MayHaveRole}
+use Rattle.cluster_types.specs.Valid.{FitsRole}
 use Rattle.crm_parse.specs.declared.statement.Statement.{Statement}
 use Rattle.cluster_model.specs.declared.expansion.leaves.Leaves.{Leaves}
 use Rattle.lemmas.proofs.Members.{of_flat}
@@ -62,14 +62,14 @@ module _ (leaves : Leaves) (statements : List Statement) (c : Cluster) (r : reso
       let m = of_flat (λ s. orders_in d s.form) statements o (rw same at h) in
       order-words d c agrees m.source.form (sound m.source m.among) o m.gives
 
-  pub locations : (l : Location) → Contains c.locations l → MayHaveRole c l.leaf l.role
+  pub locations : (l : Location) → Contains c.locations l → FitsRole c l.leaf l.role
   unfolding cluster_of
   locations l h =
       let same = ap (λ (c : Cluster). c.locations) is-clean.is_whole in
       let m = of_flat (λ s. location_in d s.form) statements l (rw same at h) in
       location-role d c agrees m.source.form (sound m.source m.among) l m.gives
 
-  pub rule_locations : (l : RuleLocation) → Contains c.rule_locations l → MayHaveRole c l.leaf l.role
+  pub rule_locations : (l : RuleLocation) → Contains c.rule_locations l → FitsRole c l.leaf l.role
   unfolding cluster_of
   rule_locations l h =
       let same = ap (λ (c : Cluster). c.rule_locations) is-clean.is_whole in

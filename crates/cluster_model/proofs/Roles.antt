@@ -15,7 +15,7 @@ use Rattle.cluster_types.specs.declared.rules.Order.{Order}
 use Rattle.cluster_types.specs.declared.rules.RuleLocation.{RuleLocation}
 use Rattle.cluster_types.specs.Fields.{is_promotable}
 use Rattle.cluster_types.specs.Precedence.{is_giving}
-use Rattle.cluster_types.specs.Valid.{MayHaveRole, MayHaveWord}
+use Rattle.cluster_types.specs.Valid.{FitsRole, MayHaveWord}
 use Rattle.crm_parse.specs.declared.form.Form.{Form}
 use Rattle.crm_parse.specs.declared.form.Form.TheVariants as form
 use Rattle.crm_parse.specs.declared.words.ActionWord.{ActionWord}
@@ -68,7 +68,7 @@ promotes-alike d c leaves statements e f leaf =
     ∙ ap (λ all. option_map_or (λ (leaf : Leaf). leaf.promotable) (slice_get all leaf) false) (sym f)
 
 module _ (d : Directory) (c : Cluster) (agrees : Agrees d c) where
-  pub role-may : (leaf : ℕ) (r : Role) → leaf < length d.leaves → lacks_role d leaf r ≡ false → MayHaveRole c leaf r
+  pub role-may : (leaf : ℕ) (r : Role) → leaf < length d.leaves → lacks_role d leaf r ≡ false → FitsRole c leaf r
   role-may leaf role.Started l h = let m = agrees.many in rw m at l
   role-may leaf role.Promoted l h =
       let m = agrees.many in
@@ -86,8 +86,8 @@ module _ (d : Directory) (c : Cluster) (agrees : Agrees d c) where
       (rw m at l, sym (agrees.promotes leaf) ∙ not-false (may_promote d leaf) h)
 
   pub record HasRoles (col : Colocation) : Type 0 where
-    pub dependent : MayHaveRole c col.dependent col.dependent_role
-    pub primary : MayHaveRole c col.primary col.primary_role
+    pub dependent : FitsRole c col.dependent col.dependent_role
+    pub primary : FitsRole c col.primary col.primary_role
 
   roles-same : (one other : Colocation) → one ≡ other → HasRoles one → HasRoles other
   roles-same one other e h = rw e at h
@@ -181,10 +181,10 @@ module _ (d : Directory) (c : Cluster) (agrees : Agrees d c) where
   order-words (form.Settings what set pairs) s o k = absurd (in_none o k)
   order-words (form.Kept words) s o k = absurd (in_none o k)
 
-  location-same : (one other : Location) → one ≡ other → MayHaveRole c one.leaf one.role → MayHaveRole c other.leaf other.role
+  location-same : (one other : Location) → one ≡ other → FitsRole c one.leaf one.role → FitsRole c other.leaf other.role
   location-same one other e h = rw e at h
 
-  pub location-role : (f : Form) → IsSound d f → (l : Location) → Contains (location_in d f) l → MayHaveRole c l.leaf l.role
+  pub location-role : (f : Form) → IsSound d f → (l : Location) → Contains (location_in d f) l → FitsRole c l.leaf l.role
   location-role (form.Node id name attributes utilization) s l k = absurd (in_none l k)
   location-role (form.Primitive id agent description params meta utilization operations ops) s l k = absurd (in_none l k)
   location-role (form.Group id members description params meta) s l k = absurd (in_none l k)
@@ -193,7 +193,7 @@ module _ (d : Directory) (c : Cluster) (agrees : Agrees d c) where
     one : Location
     one = record { id = id; leaf = first_named d resource; role = role_written written; score = score; node = node_named d node }
 
-    on : (one ≡ l) ⊎ Contains [] l → MayHaveRole c l.leaf l.role
+    on : (one ≡ l) ⊎ Contains [] l → FitsRole c l.leaf l.role
     on (inl same) =
         location-same one l same
         (role-may one.leaf one.role (first-there d resource (or_parts (is_unknown d resource) (is_unknown_node d node) s.known).0) s.promotable)
@@ -204,10 +204,10 @@ module _ (d : Directory) (c : Cluster) (agrees : Agrees d c) where
   location-role (form.Settings what set pairs) s l k = absurd (in_none l k)
   location-role (form.Kept words) s l k = absurd (in_none l k)
 
-  rule-same : (one other : RuleLocation) → one ≡ other → MayHaveRole c one.leaf one.role → MayHaveRole c other.leaf other.role
+  rule-same : (one other : RuleLocation) → one ≡ other → FitsRole c one.leaf one.role → FitsRole c other.leaf other.role
   rule-same one other e h = rw e at h
 
-  pub rule-role : (f : Form) → IsSound d f → (l : RuleLocation) → Contains (rule_locations_in d f) l → MayHaveRole c l.leaf l.role
+  pub rule-role : (f : Form) → IsSound d f → (l : RuleLocation) → Contains (rule_locations_in d f) l → FitsRole c l.leaf l.role
   rule-role (form.Node id name attributes utilization) s l k = absurd (in_none l k)
   rule-role (form.Primitive id agent description params meta utilization operations ops) s l k = absurd (in_none l k)
   rule-role (form.Group id members description params meta) s l k = absurd (in_none l k)

@@ -11,7 +11,7 @@ ghost use Rattle.cluster_types.specs.declared.rules.RuleLocation.{RuleLocation};
 ghost use Rattle.cluster_types.specs.Decisions.{NeedsHaveNoLoop};
 ghost use Rattle.cluster_types.specs.Numbers.{StepsHaveNoLoop};
 ghost use Rattle.cluster_types.specs.Precedence.{is_giving};
-ghost use Rattle.cluster_types.specs.Valid.{IsValid, MayHaveRole, MayHaveWord};
+ghost use Rattle.cluster_types.specs.Valid.{IsValid, FitsRole, MayHaveWord};
 ghost use Rattle.crm_lex.specs.declared.line.Line.{Line};
 ghost use Rattle.crm_parse.specs.declared.statement.Crm.{Crm};
 ghost use Rattle.crm_parse.specs.declared.statement.Statement.{Statement};
@@ -28,13 +28,13 @@ pub fn resolved_rules_have_no_loop()
 /// order has a stop or a demote wait for a start or a promote.
 pub fn resolved_rules_name_able_leaves()
     ensures locations { (leaves : Leaves) (statements : List Statement) (c : Cluster) → resolution_of leaves statements ≡ Ok c
-        → (l : Location) → Contains c.locations l → MayHaveRole c l.leaf l.role }
+        → (l : Location) → Contains c.locations l → FitsRole c l.leaf l.role }
     ensures rule_locations { (leaves : Leaves) (statements : List Statement) (c : Cluster) → resolution_of leaves statements ≡ Ok c
-        → (l : RuleLocation) → Contains c.rule_locations l → MayHaveRole c l.leaf l.role }
+        → (l : RuleLocation) → Contains c.rule_locations l → FitsRole c l.leaf l.role }
     ensures dependents { (leaves : Leaves) (statements : List Statement) (c : Cluster) → resolution_of leaves statements ≡ Ok c
-        → (col : Colocation) → Contains c.colocations col → MayHaveRole c col.dependent col.dependent_role }
+        → (col : Colocation) → Contains c.colocations col → FitsRole c col.dependent col.dependent_role }
     ensures primaries { (leaves : Leaves) (statements : List Statement) (c : Cluster) → resolution_of leaves statements ≡ Ok c
-        → (col : Colocation) → Contains c.colocations col → MayHaveRole c col.primary col.primary_role }
+        → (col : Colocation) → Contains c.colocations col → FitsRole c col.primary col.primary_role }
     ensures firsts { (leaves : Leaves) (statements : List Statement) (c : Cluster) → resolution_of leaves statements ≡ Ok c
         → (o : Order) → Contains c.orders o → MayHaveWord c o.first o.first_op }
     ensures thens { (leaves : Leaves) (statements : List Statement) (c : Cluster) → resolution_of leaves statements ≡ Ok c

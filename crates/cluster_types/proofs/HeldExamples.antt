@@ -8,7 +8,7 @@ use Rattle.cluster_types.specs.declared.placement.Decision.TheVariants.{Place}
 use Rattle.cluster_types.specs.declared.placement.NoReason.TheVariants as none
 use Rattle.cluster_types.specs.declared.placement.Target.TheVariants as target
 use Rattle.cluster_types.specs.declared.rules.Order.{Order}
-use Rattle.cluster_types.specs.Held.{OrderCanHoldBack, Held, by_order, KeepsTarget, AreTargets}
+use Rattle.cluster_types.specs.Held.{OrderCanHoldBack, Held, by_order, IsFinalTarget, AreTargets}
 use Rattle.cluster_types.specs.Reasons.{HasReason, IsHeldByOrder}
 use Rattle.cluster_types.specs.Tables.{Targets, holds_role}
 use Rattle.cluster_types.proofs.Few.{below_two}
@@ -55,9 +55,9 @@ b_is_held = by_order order 0 b_may_be_held
     (λ m h s p. let q = a_is_nowhere m h in cc)
 
 nothing_is_left : AreTargets tied idle chosen no_targets
-nothing_is_left r n h l = below_two (λ r. (n : ℕ) → n < 2 → KeepsTarget tied idle chosen r n target.Nowhere)
-    (below_two (λ n. KeepsTarget tied idle chosen 0 n target.Nowhere) (λ p. cc) (λ p. cc))
-    (below_two (λ n. KeepsTarget tied idle chosen 1 n target.Nowhere) (λ p. b_is_held) (λ p. cc)) r h n l
+nothing_is_left r n h l = below_two (λ r. (n : ℕ) → n < 2 → IsFinalTarget tied idle chosen r n target.Nowhere)
+    (below_two (λ n. IsFinalTarget tied idle chosen 0 n target.Nowhere) (λ p. cc) (λ p. cc))
+    (below_two (λ n. IsFinalTarget tied idle chosen 1 n target.Nowhere) (λ p. b_is_held) (λ p. cc)) r h n l
 
 held_by_the_order : IsHeldByOrder tied idle chosen 1 0 order
 held_by_the_order = record {

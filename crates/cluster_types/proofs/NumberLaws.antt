@@ -11,7 +11,7 @@ use Rattle.cluster_types.specs.declared.cluster.Cluster.{Cluster}
 use Rattle.cluster_types.specs.declared.journal.Action.{Action}
 use Rattle.cluster_types.specs.declared.journal.Action.TheVariants.{Fence, Probe, Operation, MigrateTo, MigrateFrom}
 use Rattle.cluster_types.specs.declared.leaf.Op.TheVariants as op
-use Rattle.cluster_types.specs.Numbers.{AreNumbered, Place, is_place_before, is_earlier, action_place}
+use Rattle.cluster_types.specs.Numbers.{AreNumbered, ActionPlace, is_place_before, is_earlier, action_place}
 use Rattle.cluster_types.specs.Precedence.{is_migrating, sends}
 
 -- by the first number in which two places differ
@@ -20,29 +20,29 @@ by_first x y true true f h k = f refl refl
 by_first x y true false f h k = let e : false ≡ true = grind arith in cc
 by_first x y false q f h k = let e : false ≡ true = grind arith in cc
 
-abbrev pub by_node : Place → Place → Bool
+abbrev pub by_node : ActionPlace → ActionPlace → Bool
 by_node a b = nat_lt a.node b.node || a.node == b.node && nat_lt a.interval b.interval
 
-abbrev pub by_leaf : Place → Place → Bool
+abbrev pub by_leaf : ActionPlace → ActionPlace → Bool
 by_leaf a b = nat_lt a.leaf b.leaf || a.leaf == b.leaf && by_node a b
 
-abbrev pub by_rank : Place → Place → Bool
+abbrev pub by_rank : ActionPlace → ActionPlace → Bool
 by_rank a b = nat_lt a.ranked b.ranked || a.ranked == b.ranked && by_leaf a b
 
 not_both_less : (x y : ℕ) → nat_lt x y ≡ true → nat_lt y x ≡ true → ⊥
 not_both_less x y h k = let e : false ≡ true = grind arith in cc
 
-by_node_once : (a b : Place) → by_node a b ≡ true → by_node b a ≡ true → ⊥
+by_node_once : (a b : ActionPlace) → by_node a b ≡ true → by_node b a ≡ true → ⊥
 by_node_once a b h k = by_first a.node b.node (nat_lt a.interval b.interval) (nat_lt b.interval a.interval) (not_both_less a.interval b.interval) h k
 
-by_leaf_once : (a b : Place) → by_leaf a b ≡ true → by_leaf b a ≡ true → ⊥
+by_leaf_once : (a b : ActionPlace) → by_leaf a b ≡ true → by_leaf b a ≡ true → ⊥
 by_leaf_once a b h k = by_first a.leaf b.leaf (by_node a b) (by_node b a) (by_node_once a b) h k
 
-by_rank_once : (a b : Place) → by_rank a b ≡ true → by_rank b a ≡ true → ⊥
+by_rank_once : (a b : ActionPlace) → by_rank a b ≡ true → by_rank b a ≡ true → ⊥
 by_rank_once a b h k = by_first a.ranked b.ranked (by_leaf a b) (by_leaf b a) (by_leaf_once a b) h k
 
 -- a place isn't before itself, and of two places one is before the other at most
-pub not_both : (a b : Place) → is_place_before a b ≡ true → is_place_before b a ≡ true → ⊥
+pub not_both : (a b : ActionPlace) → is_place_before a b ≡ true → is_place_before b a ≡ true → ⊥
 not_both a b h k = by_first a.phase b.phase (by_rank a b) (by_rank b a) (by_rank_once a b) h k
 
 -- A list in the order of its numbers, of which each has the other's actions, is the other.

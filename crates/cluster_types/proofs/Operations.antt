@@ -7,7 +7,7 @@ use Rattle.cluster_types.specs.declared.leaf.Op.{Op}
 use Rattle.cluster_types.specs.declared.leaf.Op.TheVariants as op
 use Rattle.cluster_types.specs.declared.leaf.Role.{Role}
 use Rattle.cluster_types.specs.declared.leaf.Role.TheVariants as role
-use Rattle.cluster_types.specs.Precedence.{CellOf, as_earlier, as_later, both, cell_of, change_cell, gives_any, is_migrating, is_same_op, op_cell, start_cell, takers, takes_or_probes}
+use Rattle.cluster_types.specs.Precedence.{LeafOnNode, as_earlier, as_later, both, cell_of, change_cell, gives_any, is_migrating, is_same_op, op_cell, start_cell, takers, takes_or_probes}
 use Rattle.cluster_types.specs.Precedes.{IsOperation, operation, CountsAsFirst, first_itself, first_taken_in, CountsAsLater, later_itself, later_sent_to, later_sent_off, TakesOrProbes, probes, takes, giver}
 use Rattle.cluster_types.proofs.Few.{of_one, of_two}
 use Rattle.cluster_types.proofs.OpLaws.{op_itself}
@@ -40,41 +40,41 @@ same_op op.Monitor op.Demote h = cc
 same_op op.Monitor op.Monitor h = refl
 
 -- both actions have a cell, and the cells pass the test
-pub record TwoCells (test : CellOf → CellOf → Bool) (u v : Option CellOf) : Type 0 where
-  pub one : CellOf
-  pub other : CellOf
+pub record TwoCells (test : LeafOnNode → LeafOnNode → Bool) (u v : Option LeafOnNode) : Type 0 where
+  pub one : LeafOnNode
+  pub other : LeafOnNode
   pub is_one : u ≡ Some one
   pub is_other : v ≡ Some other
   pub passes : test one other ≡ true
 
-pub two_cells : (test : CellOf → CellOf → Bool) (u v : Option CellOf) → both test u v ≡ true → TwoCells test u v
+pub two_cells : (test : LeafOnNode → LeafOnNode → Bool) (u v : Option LeafOnNode) → both test u v ≡ true → TwoCells test u v
 two_cells test (Some a) (Some b) h = record { one = a; other = b; is_one = refl; is_other = refl; passes = h }
 two_cells test (Some a) None h = cc
 two_cells test None (Some b) h = cc
 two_cells test None None h = cc
 
-pub cells_pass : (test : CellOf → CellOf → Bool) (u v : Option CellOf) (r n s m : ℕ) → u ≡ cell_of r n → v ≡ cell_of s m
+pub cells_pass : (test : LeafOnNode → LeafOnNode → Bool) (u v : Option LeafOnNode) (r n s m : ℕ) → u ≡ cell_of r n → v ≡ cell_of s m
     → test (record { leaf = r; node = n }) (record { leaf = s; node = m }) ≡ true → both test u v ≡ true
 cells_pass test u v r n s m e f h = rw e (rw f h)
 
-pub leaf_is : (r n : ℕ) (a : CellOf) → cell_of r n ≡ Some a → r ≡ a.leaf
-leaf_is r n a h = let e : record { leaf = r; node = n } ≡ a = cc in ap (λ (v : CellOf). v.leaf) e
+pub leaf_is : (r n : ℕ) (a : LeafOnNode) → cell_of r n ≡ Some a → r ≡ a.leaf
+leaf_is r n a h = let e : record { leaf = r; node = n } ≡ a = cc in ap (λ (v : LeafOnNode). v.leaf) e
 
-pub node_is : (r n : ℕ) (a : CellOf) → cell_of r n ≡ Some a → n ≡ a.node
-node_is r n a h = let e : record { leaf = r; node = n } ≡ a = cc in ap (λ (v : CellOf). v.node) e
+pub node_is : (r n : ℕ) (a : LeafOnNode) → cell_of r n ≡ Some a → n ≡ a.node
+node_is r n a h = let e : record { leaf = r; node = n } ≡ a = cc in ap (λ (v : LeafOnNode). v.node) e
 
 -- what holds at the leaf and the node holds at the cell
-pub moved : (P : ℕ → ℕ → Type 0) (r n : ℕ) (a : CellOf) → cell_of r n ≡ Some a → P r n → P a.leaf a.node
+pub moved : (P : ℕ → ℕ → Type 0) (r n : ℕ) (a : LeafOnNode) → cell_of r n ≡ Some a → P r n → P a.leaf a.node
 moved P r n a h p = subst (λ v. P v a.node) (leaf_is r n a h) (subst (λ v. P r v) (node_is r n a h) p)
 
-operation_on : (o p : Op) (r n i : ℕ) (role : Role) (a : CellOf) (b : Bool) → is_same_op o p ≡ b → (if b then cell_of r n else None) ≡ Some a
+operation_on : (o p : Op) (r n i : ℕ) (role : Role) (a : LeafOnNode) (b : Bool) → is_same_op o p ≡ b → (if b then cell_of r n else None) ≡ Some a
     → IsOperation o (Operation p r n i role) a.leaf a.node
 operation_on o p r n i role a true e h =
     let word : o ≡ p = same_op o p e in
     moved (IsOperation o (Operation p r n i role)) r n a h (subst (λ v. IsOperation o (Operation v r n i role) r n) word (operation r n i role))
 operation_on o p r n i role a false e h = cc
 
-pub operation_at : (o : Op) (x : Action) (a : CellOf) → op_cell o x ≡ Some a → IsOperation o x a.leaf a.node
+pub operation_at : (o : Op) (x : Action) (a : LeafOnNode) → op_cell o x ≡ Some a → IsOperation o x a.leaf a.node
 operation_at o (Fence n) a h = cc
 operation_at o (Probe r n) a h = cc
 operation_at o (Operation p r n i role) a h = operation_on o p r n i role a (is_same_op o p) refl h
@@ -85,7 +85,7 @@ pub cell_of_operation : (o : Op) (x : Action) (r n : ℕ) → IsOperation o x r 
 cell_of_operation o _ _ _ (operation r n i role) = rw (op_itself o) refl
 
 -- as the first of a pair
-pub first_at : (o : Op) (x : Action) (a : CellOf) → as_earlier o x ≡ Some a → CountsAsFirst o x a.leaf a.node
+pub first_at : (o : Op) (x : Action) (a : LeafOnNode) → as_earlier o x ≡ Some a → CountsAsFirst o x a.leaf a.node
 first_at op.Start (MigrateFrom r s t) a h = moved (CountsAsFirst op.Start (MigrateFrom r s t)) r t a h (first_taken_in r s t)
 first_at op.Start (Fence n) a h = cc
 first_at op.Start (Probe r n) a h = cc
@@ -109,16 +109,16 @@ cell_of_first _ _ _ _ (first_taken_in r s t) = refl
 
 module _ (actions : List Action) where
   -- as the later
-  stop_on : (r n i : ℕ) (role : Role) (a : CellOf) (b : Bool) → is_migrating actions r ≡ b → (if b then None else cell_of r n) ≡ Some a
+  stop_on : (r n i : ℕ) (role : Role) (a : LeafOnNode) (b : Bool) → is_migrating actions r ≡ b → (if b then None else cell_of r n) ≡ Some a
       → CountsAsLater actions op.Stop (Operation op.Stop r n i role) a.leaf a.node
   stop_on r n i role a true e h = cc
   stop_on r n i role a false e h =
       moved (CountsAsLater actions op.Stop (Operation op.Stop r n i role)) r n a h (later_itself op.Stop (Operation op.Stop r n i role) r n (operation r n i role) (λ k. e))
 
-  start_on : (y : Action) (a : CellOf) → op_cell op.Start y ≡ Some a → CountsAsLater actions op.Start y a.leaf a.node
+  start_on : (y : Action) (a : LeafOnNode) → op_cell op.Start y ≡ Some a → CountsAsLater actions op.Start y a.leaf a.node
   start_on y a h = later_itself op.Start y a.leaf a.node (operation_at op.Start y a h) (λ k. cc)
 
-  pub later_at : (o : Op) (y : Action) (a : CellOf) → as_later actions o y ≡ Some a → CountsAsLater actions o y a.leaf a.node
+  pub later_at : (o : Op) (y : Action) (a : LeafOnNode) → as_later actions o y ≡ Some a → CountsAsLater actions o y a.leaf a.node
   later_at op.Start (Fence n) a h = cc
   later_at op.Start (Probe r n) a h = cc
   later_at op.Start (Operation p r n i role) a h = start_on (Operation p r n i role) a h
@@ -154,10 +154,10 @@ module _ (actions : List Action) where
     pub given : Role
     pub stands : CountsAsLater actions (giver given) y r n
 
-  started_at : (y : Action) (a : CellOf) → start_cell y ≡ Some a → GivesSome y a.leaf a.node
+  started_at : (y : Action) (a : LeafOnNode) → start_cell y ≡ Some a → GivesSome y a.leaf a.node
   started_at y a h = record { given = role.Started; stands = later_at op.Start y a h }
 
-  pub given_at : (y : Action) (a : CellOf) → gives_any y ≡ Some a → GivesSome y a.leaf a.node
+  pub given_at : (y : Action) (a : LeafOnNode) → gives_any y ≡ Some a → GivesSome y a.leaf a.node
   given_at (Fence n) a h = cc
   given_at (Probe r n) a h = cc
   given_at (Operation op.Start r n i played) a h = started_at (Operation op.Start r n i played) a h
@@ -183,7 +183,7 @@ module _ (actions : List Action) where
 stop_taken : Contains (takers (giver role.Promoted)) op.Stop
 stop_taken = in_rest op.Demote (op.Stop ∷ []) op.Stop (at_head op.Stop [] op.Stop refl)
 
-pub taken_at : (held : Role) (x : Action) (a : CellOf) → takes_or_probes held x ≡ Some a → TakesOrProbes held x a.leaf a.node
+pub taken_at : (held : Role) (x : Action) (a : LeafOnNode) → takes_or_probes held x ≡ Some a → TakesOrProbes held x a.leaf a.node
 taken_at role.Started (Probe r n) a h = moved (TakesOrProbes role.Started (Probe r n)) r n a h (probes r n)
 taken_at role.Started (Fence n) a h = cc
 taken_at role.Started (Operation o r n i given) a h =
@@ -226,10 +226,10 @@ pub record Changes (x : Action) (r n : ℕ) : Type 0 where
   pub changes : what ≢ op.Monitor
   pub is : IsOperation what x r n
 
-changed_on : (o : Op) (r n i : ℕ) (given : Role) (a : CellOf) → o ≢ op.Monitor → cell_of r n ≡ Some a → Changes (Operation o r n i given) a.leaf a.node
+changed_on : (o : Op) (r n i : ℕ) (given : Role) (a : LeafOnNode) → o ≢ op.Monitor → cell_of r n ≡ Some a → Changes (Operation o r n i given) a.leaf a.node
 changed_on o r n i given a changes h = moved (Changes (Operation o r n i given)) r n a h (record { what = o; changes = changes; is = operation r n i given })
 
-pub changed_at : (x : Action) (a : CellOf) → change_cell x ≡ Some a → Changes x a.leaf a.node
+pub changed_at : (x : Action) (a : LeafOnNode) → change_cell x ≡ Some a → Changes x a.leaf a.node
 changed_at (Fence n) a h = cc
 changed_at (Probe r n) a h = cc
 changed_at (Operation op.Start r n i given) a h = changed_on op.Start r n i given a (λ k. cc) h

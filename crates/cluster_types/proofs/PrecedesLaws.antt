@@ -17,7 +17,7 @@ use Rattle.cluster_types.specs.declared.rules.Colocation.{Colocation}
 use Rattle.cluster_types.specs.declared.rules.Order.{Order}
 use Rattle.cluster_types.specs.Choice.{is_separation}
 use Rattle.cluster_types.specs.Fields.{copies}
-use Rattle.cluster_types.specs.Precedence.{CellOf, as_earlier, as_later, both, cell_of, change_cell, comes_first_in_cell, demotes_first, fences_first, gives_any, gives_role, inverse, is_across, is_inverse_pair, is_one_cell, is_one_leaf, is_ordered, is_ordered_pair, is_parted, is_serialize, is_serialized, is_some_cell, is_taken_back, is_giving, migrates_first, must_precede, op_cell, parts_first, probe_cell, probes_first, stops_first, takers, takes_or_probes}
+use Rattle.cluster_types.specs.Precedence.{LeafOnNode, as_earlier, as_later, both, cell_of, change_cell, comes_first_in_cell, demotes_first, fences_first, gives_any, gives_role, inverse, is_across, is_inverse_pair, is_one_cell, is_one_leaf, is_ordered, is_ordered_pair, is_parted, is_serialize, is_serialized, is_some_cell, is_taken_back, is_giving, migrates_first, must_precede, op_cell, parts_first, probe_cell, probes_first, stops_first, takers, takes_or_probes}
 use Rattle.cluster_types.specs.Precedes as precedes
 use Rattle.cluster_types.specs.Precedes.{IsOperation, operation, CountsAsFirst, CountsAsLater, TakesOrProbes, giver, ComesFirstOnCell, demote_stop, start_promote, change_monitor, AreSides, dependent_first, primary_first, PutsFirst, forth, back, turned, AreEnds, first_and_then, then_and_first, MigratesInTurn, taken_in_later, stopped_later, watched_later}
 use Rattle.cluster_types.specs.Tables.{is_in_scope}
@@ -47,7 +47,7 @@ module _ (c : Cluster) (actions : List Action) (is_earlier : Action → Action �
 
   -- From each test its case.
 
-  probe_case : (x y : Action) (a b : CellOf) → probe_cell x ≡ Some a → gives_any y ≡ Some b → is_one_leaf a b ≡ true → Before x y
+  probe_case : (x y : Action) (a b : LeafOnNode) → probe_cell x ≡ Some a → gives_any y ≡ Some b → is_one_leaf a b ≡ true → Before x y
   probe_case (Probe r n) y a b h k e =
       let g = given_at actions y b k in
       let one : b.leaf ≡ r = rw (leaf_is r n a h) (sym (eqb-true a.leaf b.leaf e)) in
@@ -70,7 +70,7 @@ module _ (c : Cluster) (actions : List Action) (is_earlier : Action → Action �
       precedes.stop b.one.leaf b.one.node b.other.node x y (operation_at op.Stop x b.one b.is_one)
       (subst (λ v. IsOperation op.Start y v b.other.node) (sym (eqb-true b.one.leaf b.other.leaf leaf)) (operation_at op.Start y b.other b.is_other)) few
 
-  fence_case : (n : ℕ) (y : Action) (v : Option CellOf) → gives_any y ≡ v → is_some_cell v ≡ true → Before (Fence n) y
+  fence_case : (n : ℕ) (y : Action) (v : Option LeafOnNode) → gives_any y ≡ v → is_some_cell v ≡ true → Before (Fence n) y
   fence_case n y (Some a) e h = let g = given_at actions y a e in precedes.fence n a.leaf a.node g.given y g.stands
   fence_case n y None e h = cc
 
@@ -128,7 +128,7 @@ module _ (c : Cluster) (actions : List Action) (is_earlier : Action → Action �
       (subst (λ v. CountsAsLater actions (giver given) y s v) (sym (eqb-true b.one.node b.other.node node))
       (subst (λ v. CountsAsLater actions (giver given) y v b.other.node) (eqb-true b.other.leaf s right) (gives given y b.other b.is_other)))
     where
-      gives : (given : Role) (y : Action) (a : CellOf) → gives_role given y ≡ Some a → CountsAsLater actions (giver given) y a.leaf a.node
+      gives : (given : Role) (y : Action) (a : LeafOnNode) → gives_role given y ≡ Some a → CountsAsLater actions (giver given) y a.leaf a.node
       gives role.Started y a e = later_at actions op.Start y a e
       gives role.Promoted y a e = later_at actions op.Promote y a e
 
@@ -387,7 +387,7 @@ module _ (c : Cluster) (actions : List Action) (is_earlier : Action → Action �
   migration_test _ _ (stopped_later r source target i given) = and_from (r == r) (source == source) (itself r) (itself source)
   migration_test _ _ (watched_later r source target i given) = and_from (r == r) (target == target) (itself r) (itself target)
 
-  some_cell : (v : Option CellOf) (r n : ℕ) → v ≡ cell_of r n → is_some_cell v ≡ true
+  some_cell : (v : Option LeafOnNode) (r n : ℕ) → v ≡ cell_of r n → is_some_cell v ≡ true
   some_cell v r n e = rw e refl
 
   few_test : (r n m : ℕ) → (n ≡ m) ⊎ (copies c r < length c.nodes) → (n == m || nat_lt (copies c r) (length c.nodes)) ≡ true

@@ -5,9 +5,9 @@ use Rattle.cluster_types.specs.declared.leaf.Op.{Op}
 use Rattle.cluster_types.specs.declared.leaf.Op.TheVariants.{Start, Stop, Promote, Demote, Monitor}
 use Rattle.cluster_types.specs.declared.leaf.Role.{Role}
 use Rattle.cluster_types.specs.declared.leaf.Role.TheVariants.{Started, Promoted}
-use Rattle.cluster_types.specs.Valid.{MayHaveRole, MayHaveWord}
+use Rattle.cluster_types.specs.Valid.{FitsRole, MayHaveWord}
 
-pub role_leaf : (c : Cluster) (r : ℕ) (role : Role) → MayHaveRole c r role → r < length c.leaves
+pub role_leaf : (c : Cluster) (r : ℕ) (role : Role) → FitsRole c r role → r < length c.leaves
 role_leaf c r Started h = h
 role_leaf c r Promoted h = h.0
 

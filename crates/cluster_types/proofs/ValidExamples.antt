@@ -9,7 +9,7 @@ use Rattle.cluster_types.specs.declared.node.Node.{Node}
 use Rattle.cluster_types.specs.declared.placement.Decision.{Decision}
 use Rattle.cluster_types.specs.declared.placement.Decision.TheVariants.{Place, Promote}
 use Rattle.cluster_types.specs.Decisions.{NeedsByChain, NeedsHaveNoLoop, all_decisions, is_place, needs}
-use Rattle.cluster_types.specs.Numbers.{IsStepLink, StepOf, StepsHaveNoLoop, link, step_of}
+use Rattle.cluster_types.specs.Numbers.{IsStepLink, LeafStep, StepsHaveNoLoop, link, step_of}
 use Rattle.cluster_types.specs.Valid.{IsValid, IsValidNode, IsValidLeaf}
 use Rattle.cluster_types.proofs.Few.{of_one, of_two, pair_of_two}
 use Rattle.cluster_types.proofs.SmallClusters.{node, plain_leaf, two_nodes, colocation, start_order}
@@ -65,7 +65,7 @@ ends_place _ _ (link_then d e f n rest) = ends_place e f rest
 no_needs : NeedsHaveNoLoop one
 no_needs d ring = let s = starts_promotion d d ring in let e = ends_place d d ring in cc
 
-no_link : (s t : StepOf) → IsStepLink one s t → ⊥
+no_link : (s t : LeafStep) → IsStepLink one s t → ⊥
 no_link _ _ (linked l h) = of_none (λ _. ⊥) l h
 
 no_links : StepsHaveNoLoop one

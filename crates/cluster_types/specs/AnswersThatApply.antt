@@ -64,8 +64,8 @@ module _ (c : Cluster) (es : List Event) (in_flight : List (ℕ × Action)) wher
 
   -- the report tells a failure that may be told: the node and the leaf are there, the interval is above 0, the node is online, the leaf may run there, the
   -- code is bad and not ignored, and the cell is quiet
-  abbrev pub tells_news : ℕ → ℕ → ℕ → ℕ → Bool
-  tells_news n r interval code =
+  abbrev pub tells_failure : ℕ → ℕ → ℕ → ℕ → Bool
+  tells_failure n r interval code =
       nat_lt n (length c.nodes) && nat_lt r (length c.leaves) && nat_lt 0 interval && is_online c n es && may_be_running c r n es
       && is_bad (monitor_action c r n interval) (Code code) && not (is_ignored c (monitor_action c r n interval) (Code code)) && is_quiet_cell r n
 
@@ -77,7 +77,7 @@ module _ (c : Cluster) (es : List Event) (in_flight : List (ℕ × Action)) wher
   applies_after taken (answer.Up n) = nat_lt taken most_from_outside && nat_lt n (length c.nodes) && is_offline_state (node_state c n es)
   applies_after taken (answer.Quorum now) = nat_lt taken most_from_outside
   applies_after taken (answer.Wait seconds) = nat_lt taken most_from_outside && nat_lt (moment_of es + seconds) (2 ^ 40)
-  applies_after taken (answer.Report n r interval code) = nat_lt taken most_from_outside && tells_news n r interval code
+  applies_after taken (answer.Report n r interval code) = nat_lt taken most_from_outside && tells_failure n r interval code
 
   -- the event that an action ends so, now, given with its number
   abbrev pub end_event : Outcome → ℕ × Action → Event

@@ -15,14 +15,14 @@ use Rattle.cluster_types.specs.Cells.{is_of_cell, is_sent_to, is_reset}
 use Rattle.cluster_types.specs.Failures.{outcomes, counted, is_outcome, is_failure}
 use Rattle.cluster_types.specs.May.{may_be_running, may_be_promoted}
 use Rattle.cluster_types.specs.NodeStates.{is_online}
-use Rattle.cluster_types.specs.Outcomes.{effective_fail, is_block}
+use Rattle.cluster_types.specs.Outcomes.{effective_on_fail, is_block}
 
 -- the last outcome of a cell that is in force
 abbrev pub last_outcome : Cluster → ℕ → ℕ → List Event → Option Event
 last_outcome c r n es = last_or None (outcomes c r n es)
 
 abbrev pub asks_for_block : Cluster → Event → Bool
-asks_for_block c (Ended k a o moment) = is_block (effective_fail c a)
+asks_for_block c (Ended k a o moment) = is_block (effective_on_fail c a)
 asks_for_block c _ = false
 
 -- the last failure that counts blocks the cell
@@ -40,8 +40,8 @@ begins_sending_to r n _ = false
 
 -- it is open what runs there: the last outcome is bad, or ended the sending of a migration from the cell, or a migration to the cell began after it
 -- (what a migration leaves is a rule of this project)
-abbrev pub is_left_open : Cluster → ℕ → ℕ → List Event → Bool
-is_left_open c r n es =
+abbrev pub is_unclear : Cluster → ℕ → ℕ → List Event → Bool
+is_unclear c r n es =
     option_map_or (λ e. is_failure e || is_sent_away e) (last_outcome c r n es) false
     || list_any (begins_sending_to r n) (after_last (is_outcome c r n) es)
 
@@ -51,7 +51,7 @@ cell_state c r n es =
     if not (is_online c n es) then cell.Away
     else (if is_none (last_outcome c r n es) then cell.Unprobed
     else (if is_blocked c r n es then cell.Blocked
-    else (if may_be_running c r n es && is_left_open c r n es then cell.Failed
+    else (if may_be_running c r n es && is_unclear c r n es then cell.Failed
     else (if may_be_promoted c r n es then cell.Promoted
     else (if may_be_running c r n es then cell.On
     else cell.Off)))))

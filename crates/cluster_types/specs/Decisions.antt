@@ -3,7 +3,7 @@ use Rattle.std.specs.Prelude.{◌≡◌, ◌≢◌, ℕ, suc, zero, nat_lt, ◌=
 use Rattle.std.specs.List.{list_any, list_all, flat_map, range_with_len}
 use Rattle.std.specs.Int.{int_max}
 use Rattle.std.specs.Ordering.{int_eq}
-use Rattle.edges.specs.Chains.{Chain, EdgesHaveNoLoop}
+use Rattle.edges.specs.Chains.{Chain, LinksHaveNoLoop}
 use Rattle.score.specs.Total.{minus_infinity}
 use Rattle.cluster_types.specs.declared.cluster.Cluster.{Cluster}
 use Rattle.cluster_types.specs.declared.journal.Event.{Event}
@@ -88,7 +88,7 @@ pub record IsNeedLink (c : Cluster) (among : List Decision) (d e : Decision) : T
 
 -- the needs have no loop: no chain of them leads from a decision back to it
 abbrev pub NeedsHaveNoLoop : Cluster → Type 0
-NeedsHaveNoLoop c = EdgesHaveNoLoop (IsNeedLink c (all_decisions c))
+NeedsHaveNoLoop c = LinksHaveNoLoop (IsNeedLink c (all_decisions c))
 
 -- the one decision needs the other through a chain of needs among these
 abbrev pub NeedsByChain : Cluster → List Decision → Decision → Decision → Type 0

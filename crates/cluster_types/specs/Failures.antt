@@ -11,7 +11,7 @@ use Rattle.cluster_types.specs.Cells.{is_of_cell, is_reset}
 use Rattle.cluster_types.specs.ExitCodes.{err_args, err_unimplemented, err_perm, err_installed, err_configured}
 use Rattle.cluster_types.specs.Fields.{threshold, failure_timeout}
 use Rattle.cluster_types.specs.Journals.{moment_of}
-use Rattle.cluster_types.specs.Outcomes.{is_code_among, is_bad, is_ignored, effective_fail, is_stop_policy}
+use Rattle.cluster_types.specs.Outcomes.{is_code_among, is_bad, is_ignored, effective_on_fail, is_stop_policy}
 
 -- the events since the node last joined and the cell was last cleaned up
 abbrev pub since_reset : ℕ → ℕ → List Event → List Event
@@ -84,7 +84,7 @@ is_banned c r n es =
     || has_somewhere (has_code fatal_codes) c r es
 
 abbrev pub asks_for_stop : Cluster → Event → Bool
-asks_for_stop c (Ended k a o moment) = is_stop_policy (effective_fail c a)
+asks_for_stop c (Ended k a o moment) = is_stop_policy (effective_on_fail c a)
 asks_for_stop c _ = false
 
 -- a failure somewhere keeps the leaf stopped everywhere

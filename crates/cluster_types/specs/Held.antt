@@ -60,12 +60,12 @@ module _ (c : Cluster) (es : List Event) (table : Targets) where
     by_place : (r n : ℕ) → holds_role table r role.Promoted n ≡ true → Held (Place r) n → Held (Promote r) n
 
   -- the target of a cell in the end: what was chosen there and isn't held
-  abbrev pub KeepsTarget : ℕ → ℕ → Target → Type 0
-  KeepsTarget r n target.Nowhere = holds_role table r role.Started n ≡ true → Held (Place r) n
-  KeepsTarget r n target.Started =
+  abbrev pub IsFinalTarget : ℕ → ℕ → Target → Type 0
+  IsFinalTarget r n target.Nowhere = holds_role table r role.Started n ≡ true → Held (Place r) n
+  IsFinalTarget r n target.Started =
       (holds_role table r role.Started n ≡ true) × (¬ Held (Place r) n) × (holds_role table r role.Promoted n ≡ true → Held (Promote r) n)
-  KeepsTarget r n target.Promoted = (holds_role table r role.Promoted n ≡ true) × (¬ Held (Promote r) n)
+  IsFinalTarget r n target.Promoted = (holds_role table r role.Promoted n ≡ true) × (¬ Held (Promote r) n)
 
   -- these are the targets in the end
   abbrev pub AreTargets : Targets → Type 0
-  AreTargets targets = (r n : ℕ) → r < length c.leaves → n < length c.nodes → KeepsTarget r n (targets r n)
+  AreTargets targets = (r n : ℕ) → r < length c.leaves → n < length c.nodes → IsFinalTarget r n (targets r n)

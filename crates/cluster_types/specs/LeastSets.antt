@@ -11,7 +11,7 @@ use Rattle.cluster_types.specs.declared.rules.Order.{Order}
 use Rattle.cluster_types.specs.Decisions.{decision_of}
 use Rattle.cluster_types.specs.Fields.{copies}
 use Rattle.cluster_types.specs.Held.{ColocationCanHoldBack, LacksFirst, LacksPrimary, OrderCanHoldBack}
-use Rattle.cluster_types.specs.NeededActions.{OrderMayCycle, can_cycle, has_disturbing, steps_at}
+use Rattle.cluster_types.specs.NeededActions.{OrderCanCycle, can_cycle, has_disturbing, steps_at}
 use Rattle.cluster_types.specs.Tables.{Targets, holds_role}
 use Rattle.cluster_types.specs.Terms.{active_count}
 use Rattle.cluster_types.specs.Precedence.{role_given}
@@ -29,7 +29,7 @@ module _ (c : Cluster) (es : List Event) (targets : Targets) where
   pub record IsClosedUnderCycling (set : ℕ → ℕ → Type 0) : Type 0 where
     pub by_copies : (r n : ℕ) → r < length c.leaves → n < length c.nodes → can_cycle c es targets r n ≡ true → nat_lt (copies c r) (active_count c es r) ≡ true
         → set r n
-    pub by_order : (o : Order) (n m : ℕ) → OrderMayCycle c es targets o n m
+    pub by_order : (o : Order) (n m : ℕ) → OrderCanCycle c es targets o n m
         → has_disturbing o.first_op (steps_at c es targets o.first m false) ≡ true → set o.then_leaf n
-    pub by_cycled : (o : Order) (n m : ℕ) → OrderMayCycle c es targets o n m → set o.first m
+    pub by_cycled : (o : Order) (n m : ℕ) → OrderCanCycle c es targets o n m → set o.first m
         → has_disturbing o.first_op (steps_at c es targets o.first m true) ≡ true → set o.then_leaf n

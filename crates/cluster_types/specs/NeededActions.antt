@@ -80,7 +80,7 @@ module _ (c : Cluster) (es : List Event) (targets : Targets) where
 
   -- a symmetrical mandatory order of starts or promotes has its then, on node n, wait for what is done to its first on node m, in
   -- scope. The then is in its role on node n, in a cell that can be cycled
-  pub record OrderMayCycle (o : Order) (n m : ℕ) : Type 0 where
+  pub record OrderCanCycle (o : Order) (n m : ℕ) : Type 0 where
     pub present : Contains c.orders o
     pub mandatory : o.kind ≡ kind.Mandatory
     pub both_ways : o.symmetrical ≡ true
@@ -96,9 +96,9 @@ module _ (c : Cluster) (es : List Event) (targets : Targets) where
   -- the then of an order whose first is disturbed in scope, by the steps that it needs itself, or by those that it gets as a cycled cell
   pub data Cycled : ℕ → ℕ → Type 0 where
     by_copies : (r n : ℕ) → r < length c.leaves → n < length c.nodes → can_cycle r n ≡ true → nat_lt (copies c r) (active_count c es r) ≡ true → Cycled r n
-    by_order : (o : Order) (n m : ℕ) → OrderMayCycle o n m
+    by_order : (o : Order) (n m : ℕ) → OrderCanCycle o n m
         → has_disturbing o.first_op (steps_at o.first m false) ≡ true → Cycled o.then_leaf n
-    by_cycled : (o : Order) (n m : ℕ) → OrderMayCycle o n m → Cycled o.first m
+    by_cycled : (o : Order) (n m : ℕ) → OrderCanCycle o n m → Cycled o.first m
         → has_disturbing o.first_op (steps_at o.first m true) ≡ true → Cycled o.then_leaf n
 
   -- the cell gets the step
@@ -107,14 +107,14 @@ module _ (c : Cluster) (es : List Event) (targets : Targets) where
       (Cycled r n × Contains (steps_at r n true) step) ⊎ ((¬ Cycled r n) × Contains (steps_at r n false) step)
 
   -- the cell gets a step of any kind
-  abbrev pub GetsAny : ℕ → ℕ → Type 0
-  GetsAny r n = (step : Op) × GetsStep r n step
+  abbrev pub GetsAnyStep : ℕ → ℕ → Type 0
+  GetsAnyStep r n = (step : Op) × GetsStep r n step
 
   -- the monitor is needed: the cell has a target of its role, and it isn't running or the cell gets a step
   abbrev pub NeedsMonitor : ℕ → ℕ → MonitorOf → Type 0
   NeedsMonitor r n m =
       (is_pinned c es r ≡ false) × (is_monitor_for m.role (targets r n) ≡ true)
-      × ((is_monitor_running r n m.interval_ms es ≡ false) ⊎ GetsAny r n)
+      × ((is_monitor_running r n m.interval_ms es ≡ false) ⊎ GetsAnyStep r n)
 
   -- what has to be done, before live migration. What is no monitor has interval 0 and role Started (see Action)
   pub data NeededBeforeMigration : Action → Type 0 where
@@ -126,7 +126,7 @@ module _ (c : Cluster) (es : List Event) (targets : Targets) where
 
   -- the leaf gets a step anywhere
   abbrev pub GetsStepAnywhere : ℕ → Type 0
-  GetsStepAnywhere r = (n : ℕ) × (n < length c.nodes) × GetsAny r n
+  GetsStepAnywhere r = (n : ℕ) × (n < length c.nodes) × GetsAnyStep r n
 
   -- an order leaves a migration of r be: r isn't in it; r is its first by a start, and it isn't Serialize; or the other leaf gets no step. An order of r
   -- with itself is judged by its first alone

@@ -10,22 +10,22 @@ use Rattle.cluster_types.specs.declared.states.NodeState.{NodeState}
 use Rattle.cluster_types.specs.declared.states.NodeState.TheVariants.{Online, Offline, Unclean}
 use Rattle.cluster_types.specs.Failures.{failures_in_force}
 use Rattle.cluster_types.specs.Journals.{NodeSign, joined, went_down, was_lost, was_fenced, last_sign}
-use Rattle.cluster_types.specs.Outcomes.{effective_fail, is_fence}
+use Rattle.cluster_types.specs.Outcomes.{effective_on_fail, is_fence}
 
 abbrev pub asks_for_fence : Cluster → Event → Bool
-asks_for_fence c (Ended k a o moment) = is_fence (effective_fail c a)
+asks_for_fence c (Ended k a o moment) = is_fence (effective_on_fail c a)
 asks_for_fence c _ = false
 
 -- a failure in force on the node wants it fenced (Pacemaker Explained, "on-fail"). One that a failure timeout has forgotten is still in force (rule of
 -- this project)
-abbrev pub is_to_blame : Cluster → ℕ → List Event → Bool
-is_to_blame c n es =
+abbrev pub has_failure_to_fence : Cluster → ℕ → List Event → Bool
+has_failure_to_fence c n es =
     list_any (λ r. list_any (asks_for_fence c) (failures_in_force c r n es)) (range_with_len 0 (length c.leaves))
 
 -- the state by the last that is shown of the node: a node that joined is online, but unclean where a failure wants it fenced; a lost node is
 -- unclean, but offline without fencing; any other node is offline (Pacemaker Explained, "Fencing")
 abbrev pub state_by : Cluster → ℕ → List Event → Option NodeSign → NodeState
-state_by c n es (Some joined) = if is_to_blame c n es then Unclean else Online
+state_by c n es (Some joined) = if has_failure_to_fence c n es then Unclean else Online
 state_by c n es (Some went_down) = Offline
 state_by c n es (Some was_lost) = if c.properties.fencing then Unclean else Offline
 state_by c n es (Some was_fenced) = Offline

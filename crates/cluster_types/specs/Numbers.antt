@@ -1,7 +1,7 @@
 -- The order in which actions are numbered (rule of this project).
 use Rattle.std.specs.Prelude.{◌≡◌, ◌≢◌, ◌↔◌, ℕ, suc, zero, ◌+◌, ◌*◌, nat_lt, ◌==◌, ◌&&◌, ◌||◌, Bool, true, not, if◌then◌else◌, List, [], ◌∷◌, ◌++◌, length, map, filter, fold, max, Contains, AllPairs}
 use Rattle.std.specs.List.{flat_map, range_with_len}
-use Rattle.edges.specs.Chains.{EdgesHaveNoLoop, IsLinked, IsLongestChain}
+use Rattle.edges.specs.Chains.{LinksHaveNoLoop, IsLinked, IsLongestChain}
 use Rattle.cluster_types.specs.declared.cluster.Cluster.{Cluster}
 use Rattle.cluster_types.specs.declared.journal.Action.{Action}
 use Rattle.cluster_types.specs.declared.journal.Action.TheVariants.{Fence, Probe, Operation, MigrateTo, MigrateFrom}
@@ -12,20 +12,20 @@ use Rattle.cluster_types.specs.Fields.{is_promotable}
 use Rattle.cluster_types.specs.Precedence.{is_same_op, is_giving, inverse, takers, is_migrating, is_serialize}
 
 -- a step of a leaf: one of the four operations that change it
-pub record StepOf : Type 0 where
+pub record LeafStep : Type 0 where
   pub what : Op
   pub leaf : ℕ
 
-abbrev pub step_of : Op → ℕ → StepOf
+abbrev pub step_of : Op → ℕ → LeafStep
 step_of o r = record { what = o; leaf = r }
 
-abbrev pub is_same_step : StepOf → StepOf → Bool
+abbrev pub is_same_step : LeafStep → LeafStep → Bool
 is_same_step a b = is_same_op a.what b.what && a.leaf == b.leaf
 
 -- a step that must come before another
 pub record Link : Type 0 where
-  pub before : StepOf
-  pub after : StepOf
+  pub before : LeafStep
+  pub after : LeafStep
 
 abbrev pub link : Op → ℕ → Op → ℕ → Link
 link o r p s = record { before = step_of o r; after = step_of p s }
@@ -48,7 +48,7 @@ order_links o =
     else link o.first_op o.first o.then_op o.then_leaf ∷ (if o.symmetrical then inverse_links o else [])
 
 -- only promotable leaves have promote and demote steps
-abbrev pub is_step : Cluster → StepOf → Bool
+abbrev pub is_step : Cluster → LeafStep → Bool
 is_step c s = is_same_op s.what op.Start || is_same_op s.what op.Stop || is_promotable c s.leaf
 
 -- a link counts within stops and demotes, and within starts and promotes
@@ -62,26 +62,26 @@ links c =
     (flat_map leaf_links (range_with_len 0 (length c.leaves)) ++ flat_map order_links c.orders)
 
 -- a link leads from the one step to the other
-abbrev pub IsStepLink : Cluster → StepOf → StepOf → Type 0
+abbrev pub IsStepLink : Cluster → LeafStep → LeafStep → Type 0
 IsStepLink c s t = IsLinked (λ (l : Link). l.before) (λ (l : Link). l.after) (links c) s t
 
 -- the rank of a step: how many links the longest chain has that ends at it
-abbrev pub IsRank : Cluster → StepOf → ℕ → Type 0
+abbrev pub IsRank : Cluster → LeafStep → ℕ → Type 0
 IsRank c s count = IsLongestChain (IsStepLink c) s count
 
 -- the length of the longest chain of links that ends at a step, of those at most this long
-abbrev pub chain_within : Cluster → ℕ → StepOf → ℕ
+abbrev pub chain_within : Cluster → ℕ → LeafStep → ℕ
 chain_within c zero s = 0
 chain_within c (suc most) s =
     fold max 0 (map (λ l. chain_within c most l.before + 1) (filter (λ l. is_same_step l.after s) (links c)))
 
 -- the same, computed: where the links have no loop, no chain is longer than there are steps: four a leaf at most (`rank_is_computed` of crate `loops`)
-abbrev pub rank : Cluster → StepOf → ℕ
+abbrev pub rank : Cluster → LeafStep → ℕ
 rank c s = chain_within c (4 * length c.leaves) s
 
 -- the links have no loop: no chain of them leads from a step back to it
 abbrev pub StepsHaveNoLoop : Cluster → Type 0
-StepsHaveNoLoop c = EdgesHaveNoLoop (IsStepLink c)
+StepsHaveNoLoop c = LinksHaveNoLoop (IsStepLink c)
 
 -- the kinds of actions, in the order in which their numbers stand
 pub data NumberPhase : Type 0 where
@@ -110,22 +110,22 @@ phase_position Starts = 6
 phase_position Monitors = 7
 
 -- where an action stands in the numbers: by phase, rank, leaf, node and interval
-pub record Place : Type 0 where
+pub record ActionPlace : Type 0 where
   pub phase : ℕ
   pub ranked : ℕ
   pub leaf : ℕ
   pub node : ℕ
   pub interval : ℕ
 
-abbrev pub place : ℕ → ℕ → ℕ → ℕ → ℕ → Place
+abbrev pub place : ℕ → ℕ → ℕ → ℕ → ℕ → ActionPlace
 place phase ranked r n interval = record { phase = phase; ranked = ranked; leaf = r; node = n; interval = interval }
 
-abbrev pub place_in_phase : NumberPhase → ℕ → ℕ → ℕ → ℕ → Place
+abbrev pub place_in_phase : NumberPhase → ℕ → ℕ → ℕ → ℕ → ActionPlace
 place_in_phase phase ranked r n interval = place (phase_position phase) ranked r n interval
 
 -- the place of each action. What has no rank, leaf, node or interval has 0 there. Only stops, demotes, starts and promotes have a rank, but
 -- not the stop of a leaf that migrates
-abbrev pub action_place : Cluster → List Action → Action → Place
+abbrev pub action_place : Cluster → List Action → Action → ActionPlace
 action_place c actions (Fence n) = place_in_phase Fences 0 0 n 0
 action_place c actions (Probe r n) = place_in_phase Probes 0 r n 0
 action_place c actions (Operation op.Stop r n interval role) =
@@ -138,14 +138,14 @@ action_place c actions (Operation op.Promote r n interval role) = place_in_phase
 action_place c actions (Operation op.Monitor r n interval role) = place_in_phase Monitors 0 r n interval
 
 -- the one number is below the other, or they are equal and the rest says so
-abbrev pub is_below_or_equal_and : ℕ → ℕ → Bool → Bool
-is_below_or_equal_and x y among_equals = nat_lt x y || x == y && among_equals
+abbrev pub comes_before_or : ℕ → ℕ → Bool → Bool
+comes_before_or x y among_equals = nat_lt x y || x == y && among_equals
 
 -- the lesser phase comes first, then the lesser rank, leaf, node, and interval
-abbrev pub is_place_before : Place → Place → Bool
+abbrev pub is_place_before : ActionPlace → ActionPlace → Bool
 is_place_before a b =
-    is_below_or_equal_and a.phase b.phase
-    (is_below_or_equal_and a.ranked b.ranked (is_below_or_equal_and a.leaf b.leaf (is_below_or_equal_and a.node b.node (nat_lt a.interval b.interval))))
+    comes_before_or a.phase b.phase
+    (comes_before_or a.ranked b.ranked (comes_before_or a.leaf b.leaf (comes_before_or a.node b.node (nat_lt a.interval b.interval))))
 
 -- the one action has a lower number than the other
 abbrev pub is_earlier : Cluster → List Action → Action → Action → Bool

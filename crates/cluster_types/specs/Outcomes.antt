@@ -45,32 +45,32 @@ is_bad a TimedOut = true
 is_bad a Gone = false
 
 -- what the failure of a monitor of this interval leads to; without a statement of the interval it is restart (rule of this project)
-abbrev pub monitor_fail : List MonitorOf → ℕ → OnFail
-monitor_fail ms interval = option_map_or (λ (m : MonitorOf). m.on_fail) (find (λ m. m.interval_ms == interval) ms) on_fail.Restart
+abbrev pub on_fail_of_monitor : List MonitorOf → ℕ → OnFail
+on_fail_of_monitor ms interval = option_map_or (λ (m : MonitorOf). m.on_fail) (find (λ m. m.interval_ms == interval) ms) on_fail.Restart
 
 -- what the failure of an operation leads to
-abbrev pub op_fail : Cluster → ℕ → Op → ℕ → OnFail
-op_fail c r Start interval = start_on_fail c r
-op_fail c r Stop interval = stop_on_fail c r
-op_fail c r Promote interval = promote_on_fail c r
-op_fail c r Demote interval = demote_on_fail c r
-op_fail c r Monitor interval = monitor_fail (monitors c r) interval
+abbrev pub on_fail_of_op : Cluster → ℕ → Op → ℕ → OnFail
+on_fail_of_op c r Start interval = start_on_fail c r
+on_fail_of_op c r Stop interval = stop_on_fail c r
+on_fail_of_op c r Promote interval = promote_on_fail c r
+on_fail_of_op c r Demote interval = demote_on_fail c r
+on_fail_of_op c r Monitor interval = on_fail_of_monitor (monitors c r) interval
 
 -- what the failure of an action leads to (Pacemaker Explained, "on-fail"); of a probe and of a migration it is restart (rule of this project)
-abbrev pub action_fail : Cluster → Action → OnFail
-action_fail c (Fence n) = on_fail.Restart
-action_fail c (Probe r n) = on_fail.Restart
-action_fail c (Operation op r n interval role) = op_fail c r op interval
-action_fail c (MigrateTo r source target) = on_fail.Restart
-action_fail c (MigrateFrom r source target) = on_fail.Restart
+abbrev pub on_fail_of_action : Cluster → Action → OnFail
+on_fail_of_action c (Fence n) = on_fail.Restart
+on_fail_of_action c (Probe r n) = on_fail.Restart
+on_fail_of_action c (Operation op r n interval role) = on_fail_of_op c r op interval
+on_fail_of_action c (MigrateTo r source target) = on_fail.Restart
+on_fail_of_action c (MigrateFrom r source target) = on_fail.Restart
 
 -- without fencing a failure that wants its node fenced blocks the resource instead (rule of this project)
 abbrev pub effective : Bool → OnFail → OnFail
 effective false on_fail.Fence = on_fail.Block
 effective fencing other = other
 
-abbrev pub effective_fail : Cluster → Action → OnFail
-effective_fail c a = effective c.properties.fencing (action_fail c a)
+abbrev pub effective_on_fail : Cluster → Action → OnFail
+effective_on_fail c a = effective c.properties.fencing (on_fail_of_action c a)
 
 abbrev pub is_ignore : OnFail → Bool
 is_ignore on_fail.Ignore = true
@@ -96,4 +96,4 @@ is_monitor _ = false
 -- the outcome is ignored: a bad one of a monitor whose on-fail is ignore. It shows that the monitor runs, and nothing else
 -- (Pacemaker Explained, "on-fail"; that it counts nowhere else is a rule of this project)
 abbrev pub is_ignored : Cluster → Action → Outcome → Bool
-is_ignored c a o = is_monitor a && is_bad a o && is_ignore (action_fail c a)
+is_ignored c a o = is_monitor a && is_bad a o && is_ignore (on_fail_of_action c a)

@@ -17,11 +17,11 @@ use Rattle.cluster_types.specs.Fields.{copies}
 use Rattle.cluster_types.specs.Tables.{is_in_scope}
 
 -- a leaf and a node
-pub record CellOf : Type 0 where
+pub record LeafOnNode : Type 0 where
   pub leaf : ℕ
   pub node : ℕ
 
-abbrev pub cell_of : ℕ → ℕ → Option CellOf
+abbrev pub cell_of : ℕ → ℕ → Option LeafOnNode
 cell_of r n = Some (record { leaf = r; node = n })
 
 abbrev pub is_same_op : Op → Op → Bool
@@ -51,47 +51,47 @@ inverse op.Promote = op.Demote
 inverse op.Demote = op.Promote
 inverse op.Monitor = op.Monitor
 
-abbrev pub probe_cell : Action → Option CellOf
+abbrev pub probe_cell : Action → Option LeafOnNode
 probe_cell (Probe r n) = cell_of r n
 probe_cell _ = None
 
 -- the cell on which the action is this operation
-abbrev pub op_cell : Op → Action → Option CellOf
+abbrev pub op_cell : Op → Action → Option LeafOnNode
 op_cell o (Operation p r n interval role) = if is_same_op o p then cell_of r n else None
 op_cell o _ = None
 
 -- the cell that gets a start by the action. A migration that sends stands for the start on its target
-abbrev pub start_cell : Action → Option CellOf
+abbrev pub start_cell : Action → Option LeafOnNode
 start_cell (MigrateTo r source target) = cell_of r target
 start_cell a = op_cell op.Start a
 
 -- both cells are there, and stand so to each other
-abbrev pub both : (CellOf → CellOf → Bool) → Option CellOf → Option CellOf → Bool
+abbrev pub both : (LeafOnNode → LeafOnNode → Bool) → Option LeafOnNode → Option LeafOnNode → Bool
 both test (Some a) (Some b) = test a b
 both test _ _ = false
 
-abbrev pub is_one_leaf : CellOf → CellOf → Bool
+abbrev pub is_one_leaf : LeafOnNode → LeafOnNode → Bool
 is_one_leaf a b = a.leaf == b.leaf
 
-abbrev pub is_one_cell : CellOf → CellOf → Bool
+abbrev pub is_one_cell : LeafOnNode → LeafOnNode → Bool
 is_one_cell a b = a.leaf == b.leaf && a.node == b.node
 
-abbrev pub is_some_cell : Option CellOf → Bool
+abbrev pub is_some_cell : Option LeafOnNode → Bool
 is_some_cell (Some a) = true
 is_some_cell None = false
 
 -- the cell whose leaf the action starts, a migration that sends too, or promotes
-abbrev pub gives_any : Action → Option CellOf
+abbrev pub gives_any : Action → Option LeafOnNode
 gives_any (Operation op.Promote r n interval role) = cell_of r n
 gives_any a = start_cell a
 
 -- the cell whose leaf gets the role by the action
-abbrev pub gives_role : Role → Action → Option CellOf
+abbrev pub gives_role : Role → Action → Option LeafOnNode
 gives_role role.Started a = start_cell a
 gives_role role.Promoted a = op_cell op.Promote a
 
 -- the cell whose leaf loses the role by the action, or is probed by it
-abbrev pub takes_or_probes : Role → Action → Option CellOf
+abbrev pub takes_or_probes : Role → Action → Option LeafOnNode
 takes_or_probes role.Started (Probe r n) = cell_of r n
 takes_or_probes role.Started a = op_cell op.Stop a
 takes_or_probes role.Promoted (Probe r n) = cell_of r n
@@ -99,7 +99,7 @@ takes_or_probes role.Promoted (Operation op.Demote r n interval role) = cell_of 
 takes_or_probes role.Promoted a = op_cell op.Stop a
 
 -- the cell of one of the four: a start, stop, promote or demote
-abbrev pub change_cell : Action → Option CellOf
+abbrev pub change_cell : Action → Option LeafOnNode
 change_cell (Operation op.Monitor r n interval role) = None
 change_cell (Operation o r n interval role) = cell_of r n
 change_cell _ = None
@@ -120,13 +120,13 @@ abbrev pub is_migrating : List Action → ℕ → Bool
 is_migrating actions r = list_any (sends r) actions
 
 -- the action as the earlier of a pair by an order's word: a migration that takes in stands for the start on its target too
-abbrev pub as_earlier : Op → Action → Option CellOf
+abbrev pub as_earlier : Op → Action → Option LeafOnNode
 as_earlier op.Start (MigrateFrom r source target) = cell_of r target
 as_earlier o a = op_cell o a
 
 -- the action as the later: a migration that sends stands for the start on its target and for the stop on its source; the stop of a leaf that migrates
 -- stands for nothing
-abbrev pub as_later : List Action → Op → Action → Option CellOf
+abbrev pub as_later : List Action → Op → Action → Option LeafOnNode
 as_later actions op.Start a = start_cell a
 as_later actions op.Stop (MigrateTo r source target) = cell_of r source
 as_later actions op.Stop (Operation op.Stop r n interval role) = if is_migrating actions r then None else cell_of r n

@@ -29,7 +29,7 @@ use Rattle.cluster_types.specs.May.{may_be_running, may_be_promoted}
 use Rattle.cluster_types.specs.NodeStates.{is_online, node_state}
 use Rattle.cluster_types.specs.Pins.{is_pinned}
 use Rattle.cluster_types.specs.Plans.{IsPlan}
-use Rattle.cluster_types.specs.Precedence.{CellOf, gives_role, op_cell}
+use Rattle.cluster_types.specs.Precedence.{LeafOnNode, gives_role, op_cell}
 use Rattle.cluster_types.specs.Rights.{is_to_be_fenced}
 use Rattle.cluster_types.specs.Runs.{RunStanding, Runs, due, amid, idle}
 use Rattle.cluster_types.specs.Steps.{Transition, HasEnded, IsWaiting, action_at, all_succeeded, begins_number, numbers_in_flight, has_aborted, has_succeeded, is_settled, journal, succeeds_number}
@@ -80,31 +80,31 @@ module _ (t : Transition) where
 
   -- no copy too many: where a start or a promote of a leaf begins on a node, the leaf may run on fewer other nodes than it has copies. Of a plain
   -- resource there is none
-  abbrev pub AddsNoCopy : List Event → CellOf → Type 0
-  AddsNoCopy before at = count_of_others t.cluster at.node (λ m. may_be_running t.cluster at.leaf m (journal t before)) < copies t.cluster at.leaf
+  abbrev pub HasRoomForCopy : List Event → LeafOnNode → Type 0
+  HasRoomForCopy before at = count_of_others t.cluster at.node (λ m. may_be_running t.cluster at.leaf m (journal t before)) < copies t.cluster at.leaf
 
   abbrev pub NoSecondCopy : List Event → Type 0
   NoSecondCopy events =
-      AtEachBegin (λ before k a. IfSome (op_cell op.Start a) (AddsNoCopy before) × IfSome (op_cell op.Promote a) (AddsNoCopy before)) events
+      AtEachBegin (λ before k a. IfSome (op_cell op.Start a) (HasRoomForCopy before) × IfSome (op_cell op.Promote a) (HasRoomForCopy before)) events
 
   -- no promoted copy too many: where a promote of a leaf begins on a node, the leaf may be promoted on fewer other nodes than it has promoted copies
-  abbrev pub AddsNoPromoted : List Event → CellOf → Type 0
-  AddsNoPromoted before at =
+  abbrev pub HasRoomForPromoted : List Event → LeafOnNode → Type 0
+  HasRoomForPromoted before at =
       count_of_others t.cluster at.node (λ m. may_be_promoted t.cluster at.leaf m (journal t before)) < promoted_copies t.cluster at.leaf
 
   abbrev pub NoSecondPromotion : List Event → Type 0
-  NoSecondPromotion events = AtEachBegin (λ before k a. IfSome (op_cell op.Promote a) (AddsNoPromoted before)) events
+  NoSecondPromotion events = AtEachBegin (λ before k a. IfSome (op_cell op.Promote a) (HasRoomForPromoted before)) events
 
   -- no forbidden neighbour: where two leaves must be apart and the one is given its role on a node, it can't be that the other has its own there
-  abbrev pub MeetsNot : List Event → Action → ℕ → Role → ℕ → Role → Type 0
-  MeetsNot before a r r_role s s_role =
+  abbrev pub StaysApart : List Event → Action → ℕ → Role → ℕ → Role → Type 0
+  StaysApart before a r r_role s s_role =
       IfSome (gives_role r_role a) (λ at. at.leaf ≡ r → may_have_role t.cluster s s_role at.node (journal t before) ≡ false)
 
   abbrev pub NoForbiddenNeighbour : List Event → Type 0
   NoForbiddenNeighbour events =
       AtEachBegin (λ before k a. (col : Colocation) → Contains t.cluster.colocations col → is_separation col ≡ true
-      → MeetsNot before a col.dependent col.dependent_role col.primary col.primary_role
-      × MeetsNot before a col.primary col.primary_role col.dependent col.dependent_role) events
+      → StaysApart before a col.dependent col.dependent_role col.primary col.primary_role
+      × StaysApart before a col.primary col.primary_role col.dependent col.dependent_role) events
 
   -- a migration has its leaf to itself: where it sends, the leaf may run on no node but the source, and where it takes in, on none but the source and
   -- the target

@@ -26,9 +26,9 @@ pub record KeepsLimits (c : Cluster) : Type 0 where
   pub rules : length c.locations + length c.rule_locations + length c.colocations + length c.orders ≤ 2000
 
 -- the role may stand at the leaf, which is there: only a promotable leaf is promoted
-abbrev pub MayHaveRole : Cluster → ℕ → Role → Type 0
-MayHaveRole c r role.Started = r < length c.leaves
-MayHaveRole c r role.Promoted = (r < length c.leaves) × (is_promotable c r ≡ true)
+abbrev pub FitsRole : Cluster → ℕ → Role → Type 0
+FitsRole c r role.Started = r < length c.leaves
+FitsRole c r role.Promoted = (r < length c.leaves) × (is_promotable c r ≡ true)
 
 -- the word may stand in an order at the leaf
 abbrev pub MayHaveWord : Cluster → ℕ → Op → Type 0
@@ -51,17 +51,17 @@ pub record IsValidLeaf (leaf : Leaf) : Type 0 where
 
 pub record IsValidLocation (c : Cluster) (l : Location) : Type 0 where
   pub id : is_name l.id ≡ true
-  pub role : MayHaveRole c l.leaf l.role
+  pub role : FitsRole c l.leaf l.role
   pub node : l.node < length c.nodes
 
 pub record IsValidRuleLocation (c : Cluster) (l : RuleLocation) : Type 0 where
   pub id : is_name l.id ≡ true
-  pub role : MayHaveRole c l.leaf l.role
+  pub role : FitsRole c l.leaf l.role
 
 pub record IsValidColocation (c : Cluster) (col : Colocation) : Type 0 where
   pub id : is_name col.id ≡ true
-  pub dependent : MayHaveRole c col.dependent col.dependent_role
-  pub primary : MayHaveRole c col.primary col.primary_role
+  pub dependent : FitsRole c col.dependent col.dependent_role
+  pub primary : FitsRole c col.primary col.primary_role
 
 -- no order has a stop or a demote wait for a start or a promote
 pub record IsValidOrder (c : Cluster) (o : Order) : Type 0 where

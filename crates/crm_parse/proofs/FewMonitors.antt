@@ -10,7 +10,7 @@ use Rattle.lemmas.proofs.Members.{all_append}
 use Rattle.crm_parse.specs.declared.fault.ParseCause.TheVariants.{RepeatedKey, Unsupported}
 use Rattle.crm_parse.specs.declared.pair.Operation.{Operation}
 use Rattle.crm_parse.specs.Keys.{when}
-use Rattle.crm_parse.specs.Monitors.{AreFew, recurring, recurring_in}
+use Rattle.crm_parse.specs.Monitors.{MayStandTogether, recurring, recurring_in}
 use Rattle.crm_parse.specs.Operations.{has_monitor_room, interval_of, operation_of, recurs}
 use Rattle.crm_parse.proofs.Binds.{unless-ok, when-ok}
 use Rattle.faults.proofs.Steps.{bind-ok}
@@ -27,7 +27,7 @@ differs (x ∷ xs) y h (suc k) d l same =
     let (one, rest) = or_parts (x == y) (list_any (λ x. x == y) xs) h in
     differs xs y rest k d (omega (arith, l)) same
 
-few-push : (xs : List ℕ) (x : ℕ) → AreFew xs → length xs < 8 → 0 < x → list_any (λ y. y == x) xs ≡ false → AreFew (xs ++ x ∷ [])
+few-push : (xs : List ℕ) (x : ℕ) → MayStandTogether xs → length xs < 8 → 0 < x → list_any (λ y. y == x) xs ≡ false → MayStandTogether (xs ++ x ∷ [])
 few-push xs x h few above new = record {
   few = omega (arith, length-append xs (x ∷ []), few);
   above = all_append (λ (y : ℕ). 0 < y) xs (x ∷ []) h.above (above, tt);
@@ -77,32 +77,32 @@ room-parts : (ops : List Operation) (i : ℕ) → 0 < i → has_monitor_room ops
 room-parts ops i above e = room-case ops i (i == 0) refl above e
 
 -- one more operation
-more-case : (ops : List Operation) (op : Operation) (b : Bool) → recurs op ≡ b → AreFew (recurring ops) → Fits ops op
-    → AreFew (recurring ops ++ cond b (interval_of op.pairs ∷ []) [])
+more-case : (ops : List Operation) (op : Operation) (b : Bool) → recurs op ≡ b → MayStandTogether (recurring ops) → Fits ops op
+    → MayStandTogether (recurring ops ++ cond b (interval_of op.pairs ∷ []) [])
 more-case ops op true r h fits =
     let (first, last) = and_parts _ _ r in
     let above = ltb-true 0 (interval_of op.pairs) last in
     let room = room-parts ops (interval_of op.pairs) above (fits r) in
     few-push (recurring ops) (interval_of op.pairs) h room.few above room.new
-more-case ops op false r h fits = subst AreFew (sym (append-nil (recurring ops))) h
+more-case ops op false r h fits = subst MayStandTogether (sym (append-nil (recurring ops))) h
 
-few-more : (ops : List Operation) (op : Operation) → AreFew (recurring ops) → Fits ops op → AreFew (recurring (ops ++ op ∷ []))
+few-more : (ops : List Operation) (op : Operation) → MayStandTogether (recurring ops) → Fits ops op → MayStandTogether (recurring (ops ++ op ∷ []))
 few-more ops op h fits =
     let same : recurring (ops ++ op ∷ []) ≡ recurring ops ++ recurring_in op =
     flat_map-append recurring_in ops (op ∷ []) ∙ ap (λ xs. recurring ops ++ xs) (append-nil (recurring_in op)) in
-    subst AreFew (sym same) (more-case ops op (recurs op) refl h fits)
+    subst MayStandTogether (sym same) (more-case ops op (recurs op) refl h fits)
 
-few-operations : (before ops after : List Operation) → AreFew (recurring before) → with_operations before ops ≡ Ok after → AreFew (recurring after)
+few-operations : (before ops after : List Operation) → MayStandTogether (recurring before) → with_operations before ops ≡ Ok after → MayStandTogether (recurring after)
 few-operations before [] after h e =
     let same : before ≡ after = cc in
-    subst (λ os. AreFew (recurring os)) same h
+    subst (λ os. MayStandTogether (recurring os)) same h
 few-operations before (op ∷ ops) after h e =
     let (read, one, rest) = bind-ok (operation_of before (op_words op)) _ after e in
     few-operations (before ++ read ∷ []) ops after (few-more before read h (operation-fits before (op_words op) read one)) rest
 
-none-few : AreFew []
+none-few : MayStandTogether []
 none-few = record { few = omega arith; above = tt; apart = λ i j d l within. absurd (omega (arith, within)) }
 
 -- the recurring monitors of a primitive that was read
-pub few-kept : (ops : List Operation) → KeptOps ops → AreFew (recurring ops)
+pub few-kept : (ops : List Operation) → KeptOps ops → MayStandTogether (recurring ops)
 few-kept ops h = few-operations [] ops ops none-few h

@@ -13,7 +13,7 @@ abbrev pub recurring : List Operation → List ℕ
 recurring ops = flat_map recurring_in ops
 
 -- some intervals of monitors, which may stand beside each other. Those that recur are above 0 by themselves
-pub record AreFew (intervals : List ℕ) : Type 0 where
+pub record MayStandTogether (intervals : List ℕ) : Type 0 where
   pub few : length intervals ≤ 8
   pub above : AllByRecursion (λ interval. 0 < interval) intervals
   pub apart : AllPairs (λ (one other : ℕ). one ≢ other) intervals

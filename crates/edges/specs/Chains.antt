@@ -11,8 +11,8 @@ pub data Chain {X : Type 0} (Linked : X → X → Type 0) : X → X → Type 0 w
   link_then : (x y z : X) → Linked x y → Chain Linked y z → Chain Linked x z
 
 -- no chain leads back to where it begins
-abbrev pub EdgesHaveNoLoop : {X : Type 0} → (X → X → Type 0) → Type 0
-EdgesHaveNoLoop {X} Linked = (x : X) → Chain Linked x x → ⊥
+abbrev pub LinksHaveNoLoop : {X : Type 0} → (X → X → Type 0) → Type 0
+LinksHaveNoLoop {X} Linked = (x : X) → Chain Linked x x → ⊥
 
 -- a chain of so many links ends there
 pub data ChainEnds {X : Type 0} (Linked : X → X → Type 0) : ℕ → X → Type 0 where

@@ -2,7 +2,7 @@
 use Rattle.std.specs.Prelude.{◌≡◌, ◌<◌, ◌+◌, ℕ, suc, zero, ◌==◌, ◌&&◌, ◌||◌, Bool, true, false, List, Option, Some, None, length, take, Contains}
 use Rattle.std.specs.List.{list_any}
 use Rattle.edges.specs.declared.edge.Edge.{Edge}
-use Rattle.edges.specs.Chains.{Chain, EdgesHaveNoLoop, IsLinked}
+use Rattle.edges.specs.Chains.{Chain, LinksHaveNoLoop, IsLinked}
 
 -- the edges lead from a position to another, one after the other
 abbrev pub Leads : List Edge → ℕ → ℕ → Type 0
@@ -19,7 +19,7 @@ EndsWithin positions edges = (e : Edge) → Contains edges e → (e.before < pos
 
 -- no edges lead from a position back to it
 abbrev pub HasNoLoop : List Edge → Type 0
-HasNoLoop edges = EdgesHaveNoLoop (IsLinked (λ (e : Edge). e.before) (λ (e : Edge). e.after) edges)
+HasNoLoop edges = LinksHaveNoLoop (IsLinked (λ (e : Edge). e.before) (λ (e : Edge). e.after) edges)
 
 -- from some position edges lead back to it
 pub record HasLoop (edges : List Edge) : Type 0 where

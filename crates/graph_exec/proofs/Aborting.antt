@@ -18,7 +18,7 @@ use Rattle.graph_exec.specs.Counts.{AreMostAnswered, IsAbortAnswered, RoseBy}
 use Rattle.graph_exec.specs.Inner.Rounds.{Began}
 use Rattle.graph_exec.specs.Inner.ExecutorFields.{EndedSilently}
 use Rattle.graph_exec.specs.Inner.Turns.{RunEndsAs}
-use Rattle.graph_exec.specs.Replays.{Setting, Sight}
+use Rattle.graph_exec.specs.Replays.{Setting, AnswersView}
 use Rattle.graph_exec.specs.Executors.{ExecutorOf, transition_in, later}
 
 -- where nothing happened, or nothing that aborts
@@ -63,7 +63,7 @@ pub one_more_answered : (times before middle now : ℕ) → RoseBy times before 
 one_more_answered times before middle now so_far rose = omega (arith, so_far, rose)
 
 -- a run that ends on the way hasn't made as many transitions as are allowed
-module _ (Follows : List RunLine → Type 0) (s : Setting) (from : RunStanding) (old new : Sight) (number : ℕ) (Stopped : List RunLine → Option RunLine → Type 0) where
+module _ (Follows : List RunLine → Type 0) (s : Setting) (from : RunStanding) (old new : AnswersView) (number : ℕ) (Stopped : List RunLine → Option RunLine → Type 0) where
   pub not_most : (ended : Result Journal (ReplayStop Journal)) (most before now : ℕ) → RunEndsAs Follows s from old new number Stopped ended → AreMostAnswered most before now ended
   not_most (Ok journal) most before now e = tt
   not_most (Err (stop.Unexpected journal given)) most before now e = tt

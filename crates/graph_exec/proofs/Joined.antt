@@ -12,7 +12,7 @@ use Rattle.run_safety.specs.TwoRuns.{transition_number_at}
 use Rattle.run_safety.proofs.SoFar.{runs_joined, runs_once}
 use Rattle.graph_exec.specs.declared.run.stop.ReplayStop.{ReplayStop}
 use Rattle.graph_exec.specs.declared.run.stop.ReplayStop.TheVariants as stop
-use Rattle.graph_exec.specs.Replays.{Setting, Sight}
+use Rattle.graph_exec.specs.Replays.{Setting, AnswersView}
 use Rattle.graph_exec.specs.Inner.Turns.{HasComeTo, RunEndsAs, RunEndsBetween, IsSaid}
 
 module _ (s : Setting) where
@@ -21,11 +21,11 @@ module _ (s : Setting) where
   said_none at rest = record { answers = []; runs = λ more. here at (Some more); taken = taken_none rest }
 
   module _ (Follows : List RunLine → Type 0) (none : Follows []) where
-    pub came_nowhere : (at : RunStanding) (a : Sight) → HasComeTo Follows s at a a at
+    pub came_nowhere : (at : RunStanding) (a : AnswersView) → HasComeTo Follows s at a a at
     came_nowhere at a = record { lines = []; runs = here at a.rest; told = none; said = λ steady open_still. said_none at a.rest }
 
     -- memory runs out between two transitions
-    pub lacks_memory : (at : RunStanding) (a : Sight) → IsBetween s.cluster s.promotions s.whole at → RunEndsBetween Follows s at a a (transition_number_at at)
+    pub lacks_memory : (at : RunStanding) (a : AnswersView) → IsBetween s.cluster s.promotions s.whole at → RunEndsBetween Follows s at a a (transition_number_at at)
     lacks_memory at a between = record { at = at; lines = []; runs = here at a.rest; told = none; between = between; few = omega arith }
 
   pub said_then : (from middle at : RunStanding) (lines more : List RunLine) (rest between left : Option (List Answer)) → IsSaid s from middle lines rest between
@@ -40,7 +40,7 @@ module _ (s : Setting) where
 
   -- one part, and then the next
   module _ (First Then All : List RunLine → Type 0) (join : (lines more : List RunLine) → First lines → Then more → All (lines ++ more))
-      (from middle : RunStanding) (a b c : Sight) (one : HasComeTo First s from a b middle) where
+      (from middle : RunStanding) (a b c : AnswersView) (one : HasComeTo First s from a b middle) where
     joined : (at : RunStanding) (left : Option (List Answer)) (more : List RunLine) → Runs s.cluster s.promotions s.whole middle b.rest more at left
         → Runs s.cluster s.promotions s.whole from a.rest (one.lines ++ more) at left
     joined at left more runs = runs_joined s.cluster s.promotions s.whole from middle at a.rest b.rest left one.lines more one.runs runs
@@ -132,7 +132,7 @@ module _ (s : Setting) where
       }
 
   -- a step, and the lines of it
-  pub came_step : (Follows : List RunLine → Type 0) (at next : RunStanding) (a b : Sight) (lines : List RunLine) → RunsOn s.cluster s.promotions s.whole at a.rest lines next b.rest
+  pub came_step : (Follows : List RunLine → Type 0) (at next : RunStanding) (a b : AnswersView) (lines : List RunLine) → RunsOn s.cluster s.promotions s.whole at a.rest lines next b.rest
       → Follows lines → (s.steady ≡ true → b.over ≡ false → IsSaid s at next lines a.rest b.rest) → HasComeTo Follows s at a b next
   came_step Follows at next a b lines step told said = record {
     lines = lines;

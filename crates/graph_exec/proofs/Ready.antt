@@ -21,7 +21,7 @@ use Rattle.graph_exec.specs.WatcherLines.{StopsAmong, plan_lines}
 use Rattle.graph_exec.specs.Transitions.{Accords}
 use Rattle.graph_exec.specs.declared.run.planning.Planned.{Planned}
 use Rattle.graph_exec.specs.declared.run.stop.ReplayStop.{ReplayStop}
-use Rattle.graph_exec.specs.Replays.{Setting, Sight, setting, sight}
+use Rattle.graph_exec.specs.Replays.{Setting, AnswersView, setting, sight}
 use Rattle.graph_exec.specs.Inner.Turns.{HasComeTo, CameTo, RunEndsAs, EndsStopped, HasPlannedGraph, IsReady, fresh_on, left_of}
 use Rattle.graph_exec.proofs.Joined.{came_on, ends_on}
 use Rattle.graph_exec.proofs.Named.{reasons_named}
@@ -101,9 +101,9 @@ module _ (j : KnownJournalOf) (p : Planned) (ready : IsReady j p) where
 
 -- a part of a run, and then the next, where the journal is kept with what it tells
 module _ (First Then All : List RunLine → Type 0) (join : (lines more : List RunLine) → First lines → Then more → All (lines ++ more))
-    (c : Cluster) (promotions : List Promotion) (whole steady : Bool) (from : RunStanding) (old now : Sight) where
+    (c : Cluster) (promotions : List Promotion) (whole steady : Bool) (from : RunStanding) (old now : AnswersView) where
   module _ (at : RunStanding) (one : HasComeTo First (setting c promotions whole steady) from old now at) (d : Cluster) (scores : List Promotion)
-      (same : d ≡ c) (like : scores ≡ promotions) (new : Sight) where
+      (same : d ≡ c) (like : scores ≡ promotions) (new : AnswersView) where
     same_set : setting d scores whole steady ≡ setting c promotions whole steady
     same_set = ap (λ (x : Cluster). setting x scores whole steady) same ∙ ap (λ (x : List Promotion). setting c x whole steady) like
 

@@ -16,7 +16,7 @@ use Rattle.graph_exec.specs.declared.transition.watcher.Heard.TheVariants as hea
 use Rattle.graph_exec.specs.Inner.Rounds.{Answered, StopsAs}
 use Rattle.graph_exec.specs.Executors.{ExecutorOf, BeginsNow, Went, transition_in, later}
 use Rattle.graph_exec.specs.Transitions.{EndedByItself}
-use Rattle.graph_exec.specs.WatchedTransitions.{Hears, AreLinesTold, heard_at}
+use Rattle.graph_exec.specs.WatchedTransitions.{IsToldUpTo, AreLinesTold, heard_at}
 use Rattle.graph_exec.proofs.Carrying.{went_nowhere, went_on}
 
 pub told_nothing : (Follows : List RunLine → Type 0) → Follows [] → (r : ExecutorOf) → AreLinesTold Follows r r
@@ -34,8 +34,8 @@ module _ (First Then All : List RunLine → Type 0) (join : (lines more : List R
   module _ (StopThen StopAll : List RunLine → Option RunLine → Type 0)
       (stop : (lines more : List RunLine) (at : Option RunLine) → First lines → StopThen more at → StopAll (lines ++ more) at)
       (whole : Bool) (first middle last : ExecutorOf) (rest between left : Option (List Answer)) where
-    pub hears_on : (h : Heard) → Went whole first middle rest between → AreLinesTold First first middle → Hears Then StopThen whole middle last between left h
-        → Hears All StopAll whole first last rest left h
+    pub hears_on : (h : Heard) → Went whole first middle rest between → AreLinesTold First first middle → IsToldUpTo Then StopThen whole middle last between left h
+        → IsToldUpTo All StopAll whole first last rest left h
     hears_on heard.Go w a b = told_on first middle last a b
     hears_on heard.Stop w a (inl b) = inl (record {
       at = b.at;
@@ -65,7 +65,7 @@ module _ (Follows : List RunLine → Type 0) (Stopped : List RunLine → Option 
   -- one step, of one line
   hears_step : (events : List Event) (said : RunLine) → StepsOn (transition_in old) whole old.since rest events left → new ≡ later old events
       → flat_map event_lines events ≡ said ∷ [] → (h : Heard) → (h ≡ heard.Go → Follows (said ∷ [])) → (h ≡ heard.Stop → Stopped [] (Some said))
-      → Hears Follows Stopped whole old new rest left h
+      → IsToldUpTo Follows Stopped whole old new rest left h
   hears_step events said step goes_on lines heard.Go follows stopped =
       record { events = events; happened = ap (λ (r : ExecutorOf). r.since) goes_on; told = subst Follows (sym lines) (follows refl) }
   hears_step events said step goes_on lines heard.Stop follows stopped = inl (record {
@@ -83,23 +83,23 @@ module _ (Follows : List RunLine → Type 0) (Stopped : List RunLine → Option 
   })
 
   pub hears_begin : (k : ℕ) (b : BeginsNow old new k) (h : Heard) → left ≡ rest → (h ≡ heard.Go → Follows (line.Begin k b.action ∷ []))
-      → (h ≡ heard.Stop → Stopped [] (Some (line.Begin k b.action))) → Hears Follows Stopped whole old new rest left h
+      → (h ≡ heard.Stop → Stopped [] (Some (line.Begin k b.action))) → IsToldUpTo Follows Stopped whole old new rest left h
   hears_begin k b h same follows stopped =
       hears_step (Begin k b.action ∷ []) (line.Begin k b.action)
       (subst (λ (x : Option (List Answer)). StepsOn (transition_in old) whole old.since rest (Begin k b.action ∷ []) x) (sym same) (begins rest k b.action b.begins)) b.goes_on refl
       h follows stopped
 
   pub hears_answer : (given : Answer) (a : Answered whole old new rest left given) (h : Heard) → (h ≡ heard.Go → Follows (line.Taken given ∷ []))
-      → (h ≡ heard.Stop → Stopped [] (Some (line.Taken given))) → Hears Follows Stopped whole old new rest left h
+      → (h ≡ heard.Stop → Stopped [] (Some (line.Taken given))) → IsToldUpTo Follows Stopped whole old new rest left h
   hears_answer given a h follows stopped = hears_step a.events (line.Taken given) a.step a.goes_on a.lines h follows stopped
 
   -- the watcher stops as the source is about to be asked
-  pub hears_asking : IsWaiting (transition_in old) old.since → new ≡ old → Stopped [] None → Hears Follows Stopped whole old new rest left heard.Stop
+  pub hears_asking : IsWaiting (transition_in old) old.since → new ≡ old → Stopped [] None → IsToldUpTo Follows Stopped whole old new rest left heard.Stop
   hears_asking waiting same stopped =
       rw same (inr (record { waiting = waiting; told = told_nothing (λ lines. Stopped lines None) stopped old }))
 
   -- where no answer was taken, nothing is told
-  pub hears_none : Follows [] → (end : WatchedEnd) → StopsAs whole old new rest left end → Hears Follows Stopped whole old new rest left (heard_at end)
+  pub hears_none : Follows [] → (end : WatchedEnd) → StopsAs whole old new rest left end → IsToldUpTo Follows Stopped whole old new rest left (heard_at end)
   hears_none none how.Complete s = absurd s
   hears_none none (how.Aborted event) s = absurd s
   hears_none none (how.Unexpected given) s = rw s.refused.same (told_nothing Follows none old)
@@ -107,7 +107,7 @@ module _ (Follows : List RunLine → Type 0) (Stopped : List RunLine → Option 
   hears_none none how.Stopped s = absurd s
 
   -- nor where nothing more was to be done
-  pub hears_done : (end : WatchedEnd) → EndedByItself end → AreLinesTold Follows old new → Hears Follows Stopped whole old new rest left (heard_at end)
+  pub hears_done : (end : WatchedEnd) → EndedByItself end → AreLinesTold Follows old new → IsToldUpTo Follows Stopped whole old new rest left (heard_at end)
   hears_done how.Complete d t = t
   hears_done (how.Aborted event) d t = t
   hears_done (how.Unexpected given) d t = absurd d

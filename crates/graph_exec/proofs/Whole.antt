@@ -16,7 +16,7 @@ use Rattle.run_safety.proofs.Rests.{at_rest, in_order}
 use Rattle.run_safety.proofs.SoFar.{runs_more}
 use Rattle.graph_exec.specs.declared.run.stop.ReplayStop.{ReplayStop}
 use Rattle.graph_exec.specs.declared.run.stop.ReplayStop.TheVariants as stop
-use Rattle.graph_exec.specs.Replays.{Setting, Sight, IsBetweenTwo, IsJournalKept, IsTold, OfMade, ReplaysAs, setting}
+use Rattle.graph_exec.specs.Replays.{Setting, AnswersView, IsBetweenTwo, IsJournalKept, IsTold, OfMade, ReplaysAs, setting}
 use Rattle.graph_exec.specs.RunEnds.{at_most}
 use Rattle.graph_exec.specs.Inner.Turns.{HasComeTo, CameTo, RunEndsAs, journal_back}
 use Rattle.graph_exec.proofs.CountedTransitions.{few_begin, few_begin_on, few_made}
@@ -30,7 +30,7 @@ asks_still c promotions one other (idle k es) h = h
 abbrev pub events_in : Journal → List Event
 events_in j = j.events
 
-module _ (Follows : List RunLine → Type 0) (s : Setting) (es : List Event) (a b : Sight) where
+module _ (Follows : List RunLine → Type 0) (s : Setting) (es : List Event) (a b : AnswersView) where
   pub replays : (Stopped : List RunLine → Option RunLine → Type 0) (number most : ℕ) → number ≤ most → (end : Result Journal (ReplayStop Journal))
       → RunEndsAs Follows s (due 1 es) a b number Stopped end → ReplaysAs Follows Stopped s es a b most end
   replays Stopped number most within (Ok journal) w = record {
@@ -139,12 +139,12 @@ module _ (Follows : List RunLine → Type 0) (s : Setting) (es : List Event) (a 
     }
 
 -- no memory is left before the first transition
-pub nothing_made : (Follows : List RunLine → Type 0) (Stopped : List RunLine → Option RunLine → Type 0) → Follows [] → (s : Setting) (es : List Event) (a : Sight) (most : ℕ)
+pub nothing_made : (Follows : List RunLine → Type 0) (Stopped : List RunLine → Option RunLine → Type 0) → Follows [] → (s : Setting) (es : List Event) (a : AnswersView) (most : ℕ)
     → IsBetweenTwo Follows Stopped s es a a most
 nothing_made Follows Stopped none s es a most = record { lines = []; at = due 1 es; run = here (due 1 es) a.rest; between = tt; told = none; few = omega arith }
 
 -- the run begins
-pub starts : (Follows : List RunLine → Type 0) → Follows [] → (c : Cluster) (promotions : List Promotion) (whole steady : Bool) (es : List Event) (a : Sight) (j : KnownJournalOf)
+pub starts : (Follows : List RunLine → Type 0) → Follows [] → (c : Cluster) (promotions : List Promotion) (whole steady : Bool) (es : List Event) (a : AnswersView) (j : KnownJournalOf)
     → j ≡ record { cluster = c; events = es; promotions = promotions } → CameTo Follows (setting c promotions whole steady) (due 1 es) a a (due 1) j
 starts Follows none c promotions whole steady es a j is = record {
   cluster_stays = ap (λ (x : KnownJournalOf). x.cluster) is;

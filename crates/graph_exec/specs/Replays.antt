@@ -31,16 +31,16 @@ abbrev pub setting : Cluster → List Promotion → Bool → Bool → Setting
 setting c promotions whole steady = record { cluster = c; promotions = promotions; whole = whole; steady = steady }
 
 -- the source at a moment: the answers to come, and whether nothing more is said
-pub record Sight : Type 0 where
+pub record AnswersView : Type 0 where
   pub rest : Option (List Answer)
   pub over : Bool
 
-abbrev pub sight : Option (List Answer) → Bool → Sight
+abbrev pub sight : Option (List Answer) → Bool → AnswersView
 sight rest over = record { rest = rest; over = over }
 
 -- what the watcher has come to, of some lines: it went on by them, or stopped behind them, at a line or as the source was about to be asked. So many transitions
 -- were allowed, and no more have begun, however the run ended
-module _ (Follows : List RunLine → Type 0) (Stopped : List RunLine → Option RunLine → Type 0) (s : Setting) (es : List Event) (old new : Sight) (most : ℕ) where
+module _ (Follows : List RunLine → Type 0) (Stopped : List RunLine → Option RunLine → Type 0) (s : Setting) (es : List Event) (old new : AnswersView) (most : ℕ) where
   -- the run ended so, and each of its lines was told
   pub record IsTold (journal : Journal) (end : EndOfRun) : Type 0 where
     pub lines : List RunLine

@@ -49,7 +49,7 @@ module _ (agrees : Cluster → List Event → ℕ → Type 0) (c : Cluster) (es 
   AgreesAfter next.Failed = agrees c es taken
 
 -- an answer applies, as each of a careful source does
-abbrev pub IsFitting : Cluster → List Event → ℕ → List (ℕ × Action) → Next → Type 0
-IsFitting c es taken flight (next.Answer given) = applies_after c es flight taken given ≡ true
-IsFitting c es taken flight next.Silent = Unit {0}
-IsFitting c es taken flight next.Failed = Unit {0}
+abbrev pub AppliesIfAnswered : Cluster → List Event → ℕ → List (ℕ × Action) → Next → Type 0
+AppliesIfAnswered c es taken flight (next.Answer given) = applies_after c es flight taken given ≡ true
+AppliesIfAnswered c es taken flight next.Silent = Unit {0}
+AppliesIfAnswered c es taken flight next.Failed = Unit {0}

@@ -54,9 +54,9 @@ pub record IsWatcherCutOffAsking (Stopped : List RunLine → Option RunLine → 
   pub told : AreLinesTold (λ lines. Stopped lines None) old new
 
 -- what the watcher was told, by what it said at last: it went on; or it stopped, at the line of the last step or as the source was about to be asked
-abbrev pub Hears : (List RunLine → Type 0) → (List RunLine → Option RunLine → Type 0) → Bool → ExecutorOf → ExecutorOf → Option (List Answer) → Option (List Answer) → Heard → Type 0
-Hears Follows Stopped whole old new rest left heard.Go = AreLinesTold Follows old new
-Hears Follows Stopped whole old new rest left heard.Stop = IsWatcherCutOff Stopped whole old new rest left ⊎ IsWatcherCutOffAsking Stopped old new
+abbrev pub IsToldUpTo : (List RunLine → Type 0) → (List RunLine → Option RunLine → Type 0) → Bool → ExecutorOf → ExecutorOf → Option (List Answer) → Option (List Answer) → Heard → Type 0
+IsToldUpTo Follows Stopped whole old new rest left heard.Go = AreLinesTold Follows old new
+IsToldUpTo Follows Stopped whole old new rest left heard.Stop = IsWatcherCutOff Stopped whole old new rest left ⊎ IsWatcherCutOffAsking Stopped old new
 
 -- where the source has failed as it waited for what comes next, the watcher held nothing back
 abbrev pub IsQuietAt : Type 0 → Type 0 → WatchedEnd → Type 0

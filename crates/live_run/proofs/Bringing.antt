@@ -12,7 +12,7 @@ use Rattle.cluster_types.specs.declared.cluster.Cluster.{Cluster}
 use Rattle.crm_lex.specs.RawLines.{physical_lines, raw_lines}
 use Rattle.crm_lex.specs.declared.fault.LexCause.TheVariants.{LineTooLong}
 use Rattle.crm_lex.proofs.PhysicalLines.{concat-lines, few_lines}
-use Rattle.live_run.specs.AnswersToCome.{AreReady, Coming, Lines, coming, coming_of, no_more, said_first}
+use Rattle.live_run.specs.AnswersToCome.{AreReady, Coming, LineReaderAt, coming, coming_of, no_more, said_first}
 use Rattle.live_run.specs.Inner.ComingSteps.{Brings, answers_in, came_first, is_stop_last, said_came, told_coming}
 use Rattle.live_run.specs.LineSays.{line_says, place_behind_said, line_says_within, sized_says}
 use Rattle.live_run.specs.Inner.LineFits.{SaidFits}
@@ -27,7 +27,7 @@ use Rattle.live_run.specs.declared.line_meaning.Said.TheVariants as said
 use Rattle.live_run.proofs.Cuts.{CutAt, cut_at, cut_of}
 
 -- the place and the reading
-abbrev pub lines_at : Place → Reading → Lines
+abbrev pub lines_at : Place → Reading → LineReaderAt
 lines_at at reading = record { at = at; reading = reading }
 
 first_same : (at : Place) (s : Said) (others : Coming) → said_first at s others ≡ came_first (said_came at.line s) others
@@ -240,10 +240,10 @@ said_last at (said.Answer given) fits = refl
 said_last at (said.Stop w) fits = fits
 
 -- a line without words, and what follows brings what came of both
-pub brings_on : (c : Cluster) (old middle new : Lines) (before between after : Option (List ℕ)) (found : Option Came) → told_coming c old before ≡ told_coming c middle between
+pub brings_on : (c : Cluster) (old middle new : LineReaderAt) (before between after : Option (List ℕ)) (found : Option Came) → told_coming c old before ≡ told_coming c middle between
     → Brings c found middle new between after → Brings c found old new before after
 brings_on c old middle new before between after found first more = first ∙ more
 
-pub none_brings : (c : Cluster) (old new : Lines) (before after : Option (List ℕ)) → Brings c None old new before after → told_coming c old before ≡ told_coming c new after
+pub none_brings : (c : Cluster) (old new : LineReaderAt) (before after : Option (List ℕ)) → Brings c None old new before after → told_coming c old before ≡ told_coming c new after
 none_brings c old new before None b = b
 none_brings c old new before (Some left) b = b

@@ -17,7 +17,7 @@ use Rattle.live_run.specs.SourceFollowed.{SourceFollows, HasAnswered, RestsBehin
 use Rattle.live_run.specs.declared.course.Course.{Course}
 use Rattle.live_run.specs.declared.course.Course.TheVariants as course
 use Rattle.live_run.specs.Ends.{CutRunGives}
-use Rattle.live_run.specs.RunReached.{AskedFor, AskedForAll, results_behind}
+use Rattle.live_run.specs.RunReached.{WasAskedFor, WasAllAskedFor, results_behind}
 use Rattle.live_run.proofs.Behind.{answer_in, runs_back, says_next, last_one, line_of_last}
 use Rattle.input_reading.specs.declared.results.result_lines.ResultLine.{ResultLine}
 use Rattle.run_safety.specs.TwoRuns.{IsFront}
@@ -32,7 +32,7 @@ module _ (c : Cluster) (journal : Journal) (reading : Reading) where
 
     -- what some questions that were answered have asked for
     asked_by : (p : HasAnswered start t (Some left) after)
-        → AskedFor c journal reading left after (record { results = p.given; stop = None }) ⊎ AskedForAll c journal reading left after (record { results = p.given; stop = None })
+        → WasAskedFor c journal reading left after (record { results = p.given; stop = None }) ⊎ WasAllAskedFor c journal reading left after (record { results = p.given; stop = None })
     asked_by p = by t.course refl p.rests
       where
         said : said_by c start.lines p.lines ≡ record { results = p.given; stop = None }
@@ -46,7 +46,7 @@ module _ (c : Cluster) (journal : Journal) (reading : Reading) where
         first (Some rest) e = record { more = raw_lines (t.lines.reading.held ++ rest); joined = cc }
 
         all : (o : Option (List ℕ)) → t.course ≡ course.Ended → IfSome o (λ (rest : List ℕ). rest ≡ []) → Some results ≡ option_map (λ rest. results_first p.given (coming_to t rest)) o
-            → o ≡ after → AskedForAll c journal reading left after (record { results = p.given; stop = None })
+            → o ≡ after → WasAllAskedFor c journal reading left after (record { results = p.given; stop = None })
         all None k h e o = cc
         all (Some rest) k h e o =
             let ended : coming_to t rest ≡ no_more None = ap (λ (x : Course). in_course x (to_come_reading rest)) k in
@@ -61,12 +61,12 @@ module _ (c : Cluster) (journal : Journal) (reading : Reading) where
             to_come_reading rest = coming t.cluster t.lines.reading.longest t.lines.at t.lines.reading.room (raw_lines (t.lines.reading.held ++ rest))
 
         by : (k : Course) → t.course ≡ k → RestsBehind start t after p.lines p.bytes k
-            → AskedFor c journal reading left after (record { results = p.given; stop = None }) ⊎ AskedForAll c journal reading left after (record { results = p.given; stop = None })
+            → WasAskedFor c journal reading left after (record { results = p.given; stop = None }) ⊎ WasAllAskedFor c journal reading left after (record { results = p.given; stop = None })
         by course.Reading e r = inl (record { lines = p.lines; first = first after p.read.cut; said = said; ends = r.0; bytes = p.bytes; taken = p.read.taken; near = r.1 })
         by course.Ended e r = inr (all after e r.none_left p.told refl)
         by (course.Stopped w times) e r = absurd r
 
-    nothing_asked : after ≡ Some left → AskedFor c journal reading left after (record { results = []; stop = None })
+    nothing_asked : after ≡ Some left → WasAskedFor c journal reading left after (record { results = []; stop = None })
     nothing_asked e = record {
       lines = [];
       first = record { more = raw_lines (reading.held ++ left); joined = refl };
@@ -84,7 +84,7 @@ module _ (c : Cluster) (journal : Journal) (reading : Reading) where
       pub split : results.results ≡ given ++ behind
       pub rest : rest_of (told_by t after) ≡ Some (map answer_in behind)
       pub line : t.line ≡ last_line 0 given
-      pub read : AskedFor c journal reading left after (record { results = given; stop = None }) ⊎ AskedForAll c journal reading left after (record { results = given; stop = None })
+      pub read : WasAskedFor c journal reading left after (record { results = given; stop = None }) ⊎ WasAllAskedFor c journal reading left after (record { results = given; stop = None })
 
     pub given_by : SourceFollows start t (Some left) after → Given
     given_by (stays e f) = record {
@@ -116,8 +116,8 @@ module _ (c : Cluster) (journal : Journal) (reading : Reading) where
       pub result : ResultLine
       pub run : CutRunGives c journal results lines given result
       pub line : t.line ≡ result.line
-      pub read : AskedFor c journal reading left after (record { results = given ++ result ∷ []; stop = None })
-          ⊎ AskedForAll c journal reading left after (record { results = given ++ result ∷ []; stop = None })
+      pub read : WasAskedFor c journal reading left after (record { results = given ++ result ∷ []; stop = None })
+          ⊎ WasAllAskedFor c journal reading left after (record { results = given ++ result ∷ []; stop = None })
 
     pub cut_by : (lines : List RunLine) (journal_now : List Event) (a : Answer) → IsCutRun c journal.promotions (is_none results.stop) journal.events (Some (answers_to_come results)) lines journal_now a
         (rest_of (told_by t after)) → SourceFollows start t (Some left) after → CutBy lines
@@ -145,6 +145,6 @@ module _ (c : Cluster) (journal : Journal) (reading : Reading) where
                 (subst (λ (o : Option (List Answer)). IsCutRun c journal.promotions (is_none results.stop) journal.events (Some (answers_to_come results)) lines journal_now a o) g.rest run);
           };
           line = g.line ∙ (ap (last_line 0) l.joined ∙ line_of_last 0 l.before l.last);
-          read = subst (λ (rs : List ResultLine). AskedFor c journal reading left after (record { results = rs; stop = None })
-              ⊎ AskedForAll c journal reading left after (record { results = rs; stop = None })) l.joined g.read;
+          read = subst (λ (rs : List ResultLine). WasAskedFor c journal reading left after (record { results = rs; stop = None })
+              ⊎ WasAllAskedFor c journal reading left after (record { results = rs; stop = None })) l.joined g.read;
         }

@@ -16,7 +16,7 @@ use Rattle.faults.specs.declared.fault.Fault.{Fault}
 use Rattle.faults.specs.declared.fault.Fault.TheVariants.{At, NoMemory}
 use Rattle.input_reading.specs.declared.input.cause.InputCause.TheVariants.{Words}
 use Rattle.live_run.specs.SourceFollowed.{bytes_of, count_lines}
-use Rattle.live_run.specs.Heads.{AllGoOnBehind, CanGoOn, HeadFound, KeepsBytes, LineOfHead, begins_results, ends_head, goes_on_behind, isnt_cut, head_behind, head_found, line_by_size, line_by_words, line_of_head, passes_limit, so_far, refused, taken, too_large, found_by}
+use Rattle.live_run.specs.Heads.{AllGoOnBehind, CanGoOn, HeadFound, KeepsBytes, LineOfHead, begins_results, ends_head, goes_on_behind, has_bad_words, head_behind, head_found, line_by_size, line_by_words, line_of_head, passes_limit, so_far, refused, taken, too_large, found_by}
 use Rattle.live_run.specs.Inner.HeadSteps.{BringsHead, came_to, lacks_memory, WhileWell, stop_for}
 use Rattle.live_run.specs.declared.head.HeadStop.{HeadStop}
 use Rattle.live_run.specs.declared.head.HeadStop.TheVariants as stop
@@ -84,7 +84,7 @@ only_on ends_head with_it h =
     let large : too_large ≡ with_it = h too_large in
     let none : taken [] 0 0 ≡ with_it = h (taken [] 0 0) in
     absurd (let f : ⊥ = cc in f)
-only_on (isnt_cut line why) with_it h = let large : too_large ≡ refused line (Words why) = h too_large in absurd (let f : ⊥ = cc in f)
+only_on (has_bad_words line why) with_it h = let large : too_large ≡ refused line (Words why) = h too_large in absurd (let f : ⊥ = cc in f)
 only_on passes_limit with_it h = let none : taken [] 0 0 ≡ too_large = h (taken [] 0 0) in absurd (let f : ⊥ = cc in f)
 
 pub line_on : (text : List ℕ) (old new : Reading) (before : Option (List ℕ)) (left : List ℕ) → ReaderAnswered Line old new before (Some left)

@@ -10,7 +10,7 @@ use Rattle.cluster_types.specs.declared.cluster.Cluster.{Cluster}
 use Rattle.crm_lex.specs.RawLines.{physical_lines, raw_lines}
 use Rattle.crm_lex.specs.declared.fault.LexCause.TheVariants.{LineTooLong}
 use Rattle.crm_lex.proofs.PhysicalLines.{concat-lines}
-use Rattle.live_run.specs.AnswersToCome.{Coming, Lines, coming, no_more, said_first}
+use Rattle.live_run.specs.AnswersToCome.{Coming, LineReaderAt, coming, no_more, said_first}
 use Rattle.live_run.specs.Inner.ComingSteps.{said_came}
 use Rattle.live_run.specs.SourceFollowed.{AreNear, LastLineSays, HasRead, IsStoppedBy, bytes_of, count_said, results_first, said_by}
 use Rattle.run_safety.specs.TwoRuns.{IsFront}
@@ -48,7 +48,7 @@ module _ (c : Cluster) (at : Place) (old new : Reading) (before after : Option (
   abbrev lines : List (List (List ℕ))
   lines = physical_lines new.raw ∷ []
 
-  abbrev behind : Said → Lines
+  abbrev behind : Said → LineReaderAt
   behind s = lines_at (place_behind_said at s (length (physical_lines new.raw))) new
 
   line_parts : old.held ++ a.bytes ≡ bytes_of lines ++ new.held

@@ -14,7 +14,7 @@ use Rattle.graph_exec.specs.WatcherLines.{StopsAmong}
 use Rattle.live_run.specs.Ends.{run_lines_text}
 use Rattle.live_run.specs.SourceFollowedLaws.{goes_then}
 use Rattle.live_run.specs.Inner.Fronts.{adds_none, short_behind, short_first, short_rest}
-use Rattle.live_run.specs.HeldAndWritten.{CutsShort, GoesOut, HasFailedBehind, HasWrittenLines, IsSameSink, Puts, PutsLast, WriterView, most_held}
+use Rattle.live_run.specs.HeldAndWritten.{BreaksOff, GoesOut, HasFailedBehind, HasWrittenLines, IsSameSink, Puts, PutsLast, WriterView, most_held}
 use Rattle.live_run.specs.Inner.WriteResults.{PutsBehind, PutsLines, heard_of}
 
 -- what one `write_text` has written
@@ -70,7 +70,7 @@ module _ (exact : Bool) (old new : WriterView) (same : new.names ≡ old.names) 
     failed_one (Err fault) p b go = record {
       names_stay = same;
       put = record { bears = bears_failed exact old.faults new.faults fault b; same_sink = sink };
-      text = subst (λ (t : List ℕ). CutsShort t (run_line old.names line) old.written new.written) (sym (append-nil old.held)) p;
+      text = subst (λ (t : List ℕ). BreaksOff t (run_line old.names line) old.written new.written) (sym (append-nil old.held)) p;
     }
 
   -- the lines of a plan are
@@ -107,7 +107,7 @@ module _ (exact : Bool) (old new : WriterView) (same : new.names ≡ old.names) 
   failed_held (Err fault) p few b go = record {
     names_stay = same;
     put = record { bears = bears_failed exact old.faults new.faults fault b; same_sink = sink };
-    text = subst (λ (t : List ℕ). CutsShort t [] old.written new.written) (sym (append-nil old.held)) (short_first old.held [] old.written new.written p few);
+    text = subst (λ (t : List ℕ). BreaksOff t [] old.written new.written) (sym (append-nil old.held)) (short_first old.held [] old.written new.written p few);
   }
 
 -- the first of some lines were added, and these are left
@@ -137,8 +137,8 @@ module _ (c : Cluster) (lines : List RunLine) (held held_now : List ℕ) (before
     }
 
     -- the sink fails at the next
-    pub put_failed : CutsShort held_then (run_line c line) middle after
-        → StopsAmong (λ (front : List RunLine) (at : RunLine). CutsShort (held ++ run_lines_text c front) (run_line c at) before after) lines
+    pub put_failed : BreaksOff held_then (run_line c line) middle after
+        → StopsAmong (λ (front : List RunLine) (at : RunLine). BreaksOff (held ++ run_lines_text c front) (run_line c at) before after) lines
     put_failed short = record {
       before = p.passed;
       at = line;
@@ -154,14 +154,14 @@ module _ (c : Cluster) (lines : List RunLine) (held held_now : List ℕ) (before
       (sym (p.parts ∙ (ap (λ (ls : List RunLine). p.passed ++ ls) none ∙ append-nil p.passed))) p.text
 
   -- the sink fails at the first
-  pub failed_first : (line : RunLine) (left : List RunLine) → lines ≡ line ∷ left → CutsShort held (run_line c line) before after
-      → StopsAmong (λ (front : List RunLine) (at : RunLine). CutsShort (held ++ run_lines_text c front) (run_line c at) before after) lines
+  pub failed_first : (line : RunLine) (left : List RunLine) → lines ≡ line ∷ left → BreaksOff held (run_line c line) before after
+      → StopsAmong (λ (front : List RunLine) (at : RunLine). BreaksOff (held ++ run_lines_text c front) (run_line c at) before after) lines
   failed_first line left parts short = record {
     before = [];
     at = line;
     behind = left;
     parts = parts;
-    stopped = subst (λ (t : List ℕ). CutsShort t (run_line c line) before after) (sym (append-nil held)) short;
+    stopped = subst (λ (t : List ℕ). BreaksOff t (run_line c line) before after) (sym (append-nil held)) short;
   }
 
 -- a text was added where nothing was held back, and then all leaves, with a last text behind it or with none

@@ -38,17 +38,17 @@ coming c longest at room (lines ∷ more) =
     (coming c longest (place_behind_said at (line_says_within c longest at room lines) (length lines)) (room - length (concat lines)) more)
 
 -- lines that are read: the place of the next, and what their reader holds
-pub record Lines : Type 0 where
+pub record LineReaderAt : Type 0 where
   pub at : Place
   pub reading : Reading
 
 -- what is to come of all bytes to come: those that the reader holds, and those that its source has left
-abbrev pub coming_of : Cluster → Lines → List ℕ → Coming
+abbrev pub coming_of : Cluster → LineReaderAt → List ℕ → Coming
 coming_of c lines left = coming c lines.reading.longest lines.at lines.reading.room (raw_lines (lines.reading.held ++ left))
 
 -- the numbers of some lines have their ranges: seconds below 2^40, at most 10,000 result lines, and numbers of lines below 2^32. The place and the reader
 -- agree on the number of the next line
-pub record AreReady (lines : Lines) : Type 0 where
+pub record AreReady (lines : LineReaderAt) : Type 0 where
   pub moment : lines.at.moment < 2 ^ 40
   pub few : lines.at.before ≤ 10000
   pub line : lines.at.line ≡ lines.reading.next

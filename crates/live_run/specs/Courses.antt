@@ -7,7 +7,7 @@ use Rattle.cluster_types.specs.declared.journal.Answer.{Answer}
 use Rattle.graph_exec.specs.declared.transition.outcomes.Next.{Next}
 use Rattle.graph_exec.specs.declared.transition.outcomes.Next.TheVariants as next
 use Rattle.input_reading.specs.declared.results.result_lines.ResultLine.{ResultLine}
-use Rattle.live_run.specs.AnswersToCome.{Coming, Lines, coming_of, no_more, result_first}
+use Rattle.live_run.specs.AnswersToCome.{Coming, LineReaderAt, coming_of, no_more, result_first}
 use Rattle.live_run.specs.LineSays.{is_last}
 use Rattle.live_run.specs.declared.course.Course.{Course}
 use Rattle.live_run.specs.declared.course.Course.TheVariants as course
@@ -18,7 +18,7 @@ use Rattle.live_run.specs.declared.line_stop.LineStop.TheVariants.{ReadFault}
 -- bytes has failed
 pub record SourceState : Type 0 where
   pub cluster : Cluster
-  pub lines : Lines
+  pub lines : LineReaderAt
   pub course : Course
   pub line : ℕ
   pub failed : Bool

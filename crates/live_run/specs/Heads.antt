@@ -35,19 +35,19 @@ begins_results (word ∷ words) = is word (codes "%results")
 pub data LineOfHead : Type 0 where
   ends_head : LineOfHead
   goes_on_behind : LineOfHead
-  isnt_cut : (line : ℕ) (why : LexCause) → LineOfHead
+  has_bad_words : (line : ℕ) (why : LexCause) → LineOfHead
   passes_limit : LineOfHead
 
 -- what a line says, by its words. It is cut without memory, so that the last case never comes
 abbrev pub line_by_words : Result (List (List ℕ)) (Fault LexCause) → LineOfHead
 line_by_words (Ok words) = if begins_results words then ends_head else goes_on_behind
-line_by_words (Err (At line why)) = isnt_cut line why
+line_by_words (Err (At line why)) = has_bad_words line why
 line_by_words (Err NoMemory) = passes_limit
 
 -- by its size, the number of its first physical line and its bytes
 abbrev pub line_by_size : LineStep → ℕ → List ℕ → LineOfHead
 line_by_size step.Line n raw = line_by_words (reads_line n raw)
-line_by_size step.TooLong n raw = isnt_cut n LineTooLong
+line_by_size step.TooLong n raw = has_bad_words n LineTooLong
 line_by_size _ n raw = passes_limit
 
 -- by its physical lines, of which the first has this number. So many bytes of them lie within the limit, and a line may have so many without line ends
@@ -58,7 +58,7 @@ line_of_head room longest n lines = line_by_size (line_answer room longest lines
 abbrev pub found_by : LineOfHead → HeadFound → HeadFound → HeadFound
 found_by ends_head with_it behind = with_it
 found_by goes_on_behind with_it behind = behind
-found_by (isnt_cut line why) with_it behind = refused line (Words why)
+found_by (has_bad_words line why) with_it behind = refused line (Words why)
 found_by passes_limit with_it behind = too_large
 
 -- the head of a text and some logical lines behind it, line by line: up to the first behind which it doesn't go on

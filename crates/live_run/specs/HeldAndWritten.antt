@@ -12,7 +12,7 @@ abbrev pub most_held : ℕ
 most_held = 65536
 
 -- the sink failed as a last text was added behind a text: a front of both was written, and of the text at most 65,536 bytes are missing
-pub record CutsShort (text last : List ℕ) (before after : Option (List ℕ)) : Type 0 where
+pub record BreaksOff (text last : List ℕ) (before after : Option (List ℕ)) : Type 0 where
   pub front : AddsPrefix (text ++ last) before after
   pub few_missing : length text ≤ front.count + most_held
 
@@ -34,7 +34,7 @@ pub record GoesOut (text held held_now : List ℕ) (before after : Option (List 
 -- what was held back and a text behind it were written, or the sink failed
 abbrev pub PutsLast : Result (Unit {0}) WriteFault → List ℕ → List ℕ → Option (List ℕ) → Option (List ℕ) → Type 0
 PutsLast (Ok done) text held before after = Adds before (held ++ text) after
-PutsLast (Err fault) text held before after = CutsShort held text before after
+PutsLast (Err fault) text held before after = BreaksOff held text before after
 
 -- what lines that were written have left of a sink's count of faults, by whether the last of them failed, and of its loan
 pub record HasPut (exact : Bool) (failed : Type 0) (faults faults_now loan loan_now : ℕ) : Type 0 where
@@ -65,4 +65,4 @@ module _ (exact : Bool) (old new : WriterView) (lines : List RunLine) where
   pub record HasFailedBehind (at : Option RunLine) : Type 0 where
     pub names_stay : new.names ≡ old.names
     pub put : HasPut exact (Unit {0}) old.faults new.faults old.loan new.loan
-    pub text : CutsShort (old.held ++ run_lines_text old.names lines) (last_text old.names at) old.written new.written
+    pub text : BreaksOff (old.held ++ run_lines_text old.names lines) (last_text old.names at) old.written new.written

@@ -1,10 +1,10 @@
 -- What contracts see of a reader of result lines. No public clause cites this module.
 use Rattle.std.specs.Prelude.{ℕ}
 use Rattle.cluster_io.specs.LineReaders.{loan_of, reading_of, source_of}
-use Rattle.live_run.specs.AnswersToCome.{Lines}
+use Rattle.live_run.specs.AnswersToCome.{LineReaderAt}
 use Rattle.live_run.specs.declared.result_reader.ResultReader.{ResultReader}
 
-abbrev pub reader_lines : {S : Type 0} {g : _} → ResultReader S g → Lines
+abbrev pub reader_lines : {S : Type 0} {g : _} → ResultReader S g → LineReaderAt
 reader_lines reader = record { at = reader.at; reading = reading_of reader.lines }
 
 -- its source, and the name of the loan by which it has it

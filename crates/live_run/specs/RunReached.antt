@@ -13,7 +13,7 @@ use Rattle.cluster_types.specs.Journals.{moment_of}
 use Rattle.cluster_types.specs.Runs.{RunStanding, due, Runs, IsAsking, IsBetween, IsRunSoFar, IsStoppedRun}
 use Rattle.cluster_types.specs.Texts.{run_line}
 use Rattle.crm_lex.specs.RawLines.{raw_lines}
-use Rattle.live_run.specs.AnswersToCome.{Coming, Lines, coming_of}
+use Rattle.live_run.specs.AnswersToCome.{Coming, LineReaderAt, coming_of}
 use Rattle.live_run.specs.Courses.{answers_to_come, starting}
 use Rattle.live_run.specs.SourceFollowed.{AreNear, NoneOrLastSays, bytes_of, said_by}
 use Rattle.live_run.specs.declared.line_stop.LineCause.{LineCause}
@@ -21,21 +21,21 @@ use Rattle.live_run.specs.declared.line_stop.LineStop.TheVariants as why
 use Rattle.input_reading.specs.declared.results.result_lines.ResultLine.{ResultLine}
 use Rattle.run_safety.specs.TwoRuns.{EndsBetween, IsFront}
 use Rattle.live_run.specs.LineCauses.{line_refusal_text}
-use Rattle.live_run.specs.HeldAndWritten.{CutsShort}
+use Rattle.live_run.specs.HeldAndWritten.{BreaksOff}
 use Rattle.live_run.specs.Ends.{AsksForMore, EndGets, CutRunGives, run_lines_text}
 use Rattle.live_run.specs.declared.live_end.LiveEnd.{LiveEnd}
 use Rattle.live_run.specs.declared.live_end.LiveEnd.TheVariants as end
 
 -- the place of the first result line: the moment is that of the journal
-abbrev pub first_result_place : Cluster → Journal → Reading → Lines
-first_result_place c journal reading = (starting c (moment_of journal.events) reading).lines
+abbrev pub at_first_result : Cluster → Journal → Reading → LineReaderAt
+at_first_result c journal reading = (starting c (moment_of journal.events) reading).lines
 
 -- what is to come of the result lines behind a head, where so many bytes are left
 abbrev pub results_behind : Cluster → Journal → Reading → List ℕ → Coming
-results_behind c journal reading left = coming_of c (first_result_place c journal reading) left
+results_behind c journal reading left = coming_of c (at_first_result c journal reading) left
 
 -- of a text these logical lines were taken whole. Behind them some bytes are held, and the source has the others left
-pub record IsTakenWhole (text : List ℕ) (after : Option (List ℕ)) : Type 0 where
+pub record HasWholeLinesTaken (text : List ℕ) (after : Option (List ℕ)) : Type 0 where
   pub lines : List (List (List ℕ))
   pub held : List ℕ
   pub unread : List ℕ
@@ -55,17 +55,17 @@ module _ (c : Cluster) (journal : Journal) (reading : Reading) (left : List ℕ)
   results = results_behind c journal reading left
 
   -- the lines that say this were asked for, and no more: of what lies behind the last of them only what came with its end was taken, fewer than 4,096 bytes
-  pub record AskedFor (asked : Coming) : Type 0 where
+  pub record WasAskedFor (asked : Coming) : Type 0 where
     pub lines : List (List (List ℕ))
     pub first : IsFront lines (raw_lines (reading.held ++ left))
-    pub said : said_by c (first_result_place c journal reading) lines ≡ asked
-    pub ends : NoneOrLastSays c (first_result_place c journal reading) lines
+    pub said : said_by c (at_first_result c journal reading) lines ≡ asked
+    pub ends : NoneOrLastSays c (at_first_result c journal reading) lines
     pub bytes : List ℕ
     pub taken : TakesBytes (Some left) bytes after
-    pub near : AreNear (first_result_place c journal reading) lines bytes
+    pub near : AreNear (at_first_result c journal reading) lines bytes
 
   -- all was asked for, and read: no line of it ended the reading
-  pub record AskedForAll (asked : Coming) : Type 0 where
+  pub record WasAllAskedFor (asked : Coming) : Type 0 where
     pub all : results ≡ asked
     pub unstopped : asked.stop ≡ None
     pub none_left : after ≡ Some []
@@ -152,7 +152,7 @@ module _ (c : Cluster) (journal : Journal) (reading : Reading) (left : List ℕ)
     -- the run took the answers of these lines, each of them and no other, and asks for one more. No action has ended silently. Its lines were written
     pub record IsRunOverLines (lines : List (List (List ℕ))) : Type 0 where
       pub given : List ResultLine
-      pub said : said_by c (first_result_place c journal reading) lines ≡ record { results = given; stop = None }
+      pub said : said_by c (at_first_result c journal reading) lines ≡ record { results = given; stop = None }
       pub behind : List ResultLine
       pub split : results.results ≡ given ++ behind
       pub printed : List RunLine
@@ -167,16 +167,16 @@ module _ (c : Cluster) (journal : Journal) (reading : Reading) (left : List ℕ)
     pub record IsBrokenOff : Type 0 where
       pub bytes : List ℕ
       pub taken : TakesBytes (Some left) bytes after
-      pub whole : IsTakenWhole (reading.held ++ left) after
+      pub whole : HasWholeLinesTaken (reading.held ++ left) after
       pub no_answer : GivesNoAnswer (reading.room - length (bytes_of whole.lines)) reading.longest whole.held
       pub ran : IsRunOverLines whole.lines
 
     -- the sink failed in one call: a front was written of the lines before it and of what it adds to these. Of the lines before it at most 65,536 bytes are
     -- missing. No line was asked for since. It is a front of the text that is due
-    pub record IsCutOff : Type 0 where
+    pub record HasSinkFailed : Type 0 where
       pub call : WriterCall
-      pub read : AskedFor (asked_by_call call) ⊎ AskedForAll (asked_by_call call)
-      pub cut : CutsShort (run_lines_text c (lines_before_call call)) (text_of_call call) old new
+      pub read : WasAskedFor (asked_by_call call) ⊎ WasAllAskedFor (asked_by_call call)
+      pub cut : BreaksOff (run_lines_text c (lines_before_call call)) (text_of_call call) old new
       pub begins : (how : LiveEnd) (whole : List ℕ) → EndGets c journal results how whole → AddsPrefix whole old new
 
     -- memory ran out between two transitions: the lines up to there were written, none or ones that end with `complete K`, `aborted K` or an answer that came
@@ -194,6 +194,6 @@ module _ (c : Cluster) (journal : Journal) (reading : Reading) (left : List ℕ)
     -- what each end says
     abbrev pub Reaches : LiveEnd → Type 0
     Reaches end.ReadFault = IsBrokenOff
-    Reaches end.WriteFault = IsCutOff
+    Reaches end.WriteFault = HasSinkFailed
     Reaches end.NoMemory = HasNoMemory
     Reaches how = HasWritten how

@@ -9,7 +9,7 @@ use Rattle.crm_lex.specs.RawLines.{raw_lines}
 use Rattle.graph_exec.specs.declared.transition.outcomes.Next.{Next}
 use Rattle.graph_exec.specs.declared.transition.outcomes.Next.TheVariants as next
 use Rattle.input_reading.specs.declared.results.result_lines.ResultLine.{ResultLine}
-use Rattle.live_run.specs.AnswersToCome.{Coming, Lines, coming}
+use Rattle.live_run.specs.AnswersToCome.{Coming, LineReaderAt, coming}
 use Rattle.live_run.specs.Courses.{SourceState, has_course_ended, is_reading, stop_of, told_by, coming_to}
 use Rattle.live_run.specs.LineSays.{is_last}
 use Rattle.live_run.specs.declared.course.Course.{Course}
@@ -27,7 +27,7 @@ abbrev pub count_lines : List (List (List ℕ)) → ℕ
 count_lines lines = sum_by (λ (line : List (List ℕ)). length line) lines
 
 -- what some logical lines say, read from a place on
-abbrev pub said_by : Cluster → Lines → List (List (List ℕ)) → Coming
+abbrev pub said_by : Cluster → LineReaderAt → List (List (List ℕ)) → Coming
 said_by c from lines = coming c from.reading.longest from.at from.reading.room lines
 
 -- some answers with their lines, and then what is to come behind them
@@ -44,19 +44,19 @@ abbrev pub count_said : Coming → ℕ
 count_said coming = length coming.results + (if is_some coming.stop then 1 else 0)
 
 -- some logical lines have a last one, and it says something: without it they say less
-pub record LastLineSays (c : Cluster) (from : Lines) (lines : List (List (List ℕ))) : Type 0 where
+pub record LastLineSays (c : Cluster) (from : LineReaderAt) (lines : List (List (List ℕ))) : Type 0 where
   pub front : List (List (List ℕ))
   pub last : List (List ℕ)
   pub joined : lines ≡ front ++ last ∷ []
   pub fewer : count_said (said_by c from front) < count_said (said_by c from lines)
 
 -- there are none, or the last of them says something
-abbrev pub NoneOrLastSays : Cluster → Lines → List (List (List ℕ)) → Type 0
+abbrev pub NoneOrLastSays : Cluster → LineReaderAt → List (List (List ℕ)) → Type 0
 NoneOrLastSays c from lines = (lines ≡ []) ⊎ LastLineSays c from lines
 
 -- these logical lines were read and answered so, and the bytes that were held and taken are theirs and those that are held now. Each byte of theirs
 -- leaves less room
-pub record HasRead (c : Cluster) (old new : Lines) (before after : Option (List ℕ)) (lines : List (List (List ℕ))) (given : List ResultLine) (bytes : List ℕ) : Type 0 where
+pub record HasRead (c : Cluster) (old new : LineReaderAt) (before after : Option (List ℕ)) (lines : List (List (List ℕ))) (given : List ResultLine) (bytes : List ℕ) : Type 0 where
   pub taken : TakesBytes before bytes after
   pub parts : old.reading.held ++ bytes ≡ bytes_of lines ++ new.reading.held
   pub cut : option_map (λ left. raw_lines (old.reading.held ++ left)) before ≡ option_map (λ left. lines ++ raw_lines (new.reading.held ++ left)) after
@@ -65,16 +65,16 @@ pub record HasRead (c : Cluster) (old new : Lines) (before after : Option (List 
   pub same_size : new.reading.longest ≡ old.reading.longest
 
 -- nothing was taken; or behind these lines only what came with the end of the last of them: fewer than 4,096 bytes
-abbrev pub AreNear : Lines → List (List (List ℕ)) → List ℕ → Type 0
+abbrev pub AreNear : LineReaderAt → List (List (List ℕ)) → List ℕ → Type 0
 AreNear old lines bytes = (bytes ≡ []) ⊎ (length (old.reading.held ++ bytes) < length (bytes_of lines) + 4096)
 
 -- all is read
-pub record AllIsRead (new : Lines) (after : Option (List ℕ)) : Type 0 where
+pub record AllIsRead (new : LineReaderAt) (after : Option (List ℕ)) : Type 0 where
   pub none_held : new.reading.held ≡ []
   pub none_left : IfSome after (λ left. left ≡ [])
 
 -- the last of these lines is the first that isn't an answer: it is refused, or goes past the limit
-pub record IsStoppedBy (c : Cluster) (old : Lines) (before after : Option (List ℕ)) (given : List ResultLine) (why : LineStop) : Type 0 where
+pub record IsStoppedBy (c : Cluster) (old : LineReaderAt) (before after : Option (List ℕ)) (given : List ResultLine) (why : LineStop) : Type 0 where
   pub lines : List (List (List ℕ))
   pub first : IfSome before (λ left. IsFront lines (raw_lines (old.reading.held ++ left)))
   pub said : said_by c old lines ≡ record { results = given; stop = Some why }

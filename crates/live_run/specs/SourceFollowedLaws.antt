@@ -14,7 +14,7 @@ use Rattle.live_run.specs.AnswersToCome.{Coming}
 use Rattle.live_run.specs.Courses.{SourceState, has_course_ended, is_reading, coming_to}
 use Rattle.live_run.specs.SourceFollowed.{NoneOrLastSays, SourceFollows, HasAnswered, HasBroken, HasQuestionFailed, HasCounted, HasFollowed, HasRead, HasSaid, HasStopped, IsStoppedBy, RestsBehind, SourceView, answers, by_line, by_source, last_line, results_first, stays}
 use Rattle.live_run.specs.Ends.{run_lines_text}
-use Rattle.live_run.specs.HeldAndWritten.{CutsShort, GoesOut, HasFailedBehind, HasPut, HasWrittenLines, WriterView, last_text}
+use Rattle.live_run.specs.HeldAndWritten.{BreaksOff, GoesOut, HasFailedBehind, HasPut, HasWrittenLines, WriterView, last_text}
 use Rattle.live_run.specs.Inner.Fronts.{adds_none, short_behind}
 use Rattle.live_run.specs.declared.course.Course.{Course}
 use Rattle.live_run.specs.declared.course.Course.TheVariants as course
@@ -170,7 +170,7 @@ module _ (first rest held held_then : List ℕ) (before middle : Option (List �
   }
 
   -- or the sink fails behind it
-  fails_then : (last : List ℕ) (after : Option (List ℕ)) → CutsShort (held_then ++ rest) last middle after → CutsShort (held ++ (first ++ rest)) last before after
+  fails_then : (last : List ℕ) (after : Option (List ℕ)) → BreaksOff (held_then ++ rest) last middle after → BreaksOff (held ++ (first ++ rest)) last before after
   fails_then last after c =
       short_behind (first ++ rest) held (held_then ++ rest) last before middle after (record { out = a.out; parts = behind_first; written = a.written }) c
 
@@ -205,8 +205,8 @@ module _ (exact : Bool) (first middle last : WriterView) (lines more : List RunL
   lines_later at b = record {
     names_stay = b.names_stay ∙ a.names_stay;
     put = put_then exact (Unit {0}) first.faults middle.faults last.faults first.loan middle.loan last.loan a.put b.put;
-    text = subst (λ (t : List ℕ). CutsShort (first.held ++ t) (last_text first.names at) first.written last.written) (sym text_joined)
-        (subst (λ (c : Cluster). CutsShort (first.held ++ (run_lines_text first.names lines ++ run_lines_text middle.names more)) (last_text c at) first.written last.written) a.names_stay
+    text = subst (λ (t : List ℕ). BreaksOff (first.held ++ t) (last_text first.names at) first.written last.written) (sym text_joined)
+        (subst (λ (c : Cluster). BreaksOff (first.held ++ (run_lines_text first.names lines ++ run_lines_text middle.names more)) (last_text c at) first.written last.written) a.names_stay
         (fails_then (run_lines_text first.names lines) (run_lines_text middle.names more) first.held middle.held first.written middle.written a.text
         (last_text middle.names at) last.written b.text));
   }

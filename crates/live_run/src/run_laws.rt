@@ -6,7 +6,7 @@ ghost use Rattle.cluster_types.specs.declared.journal.Answer.{Answer as AnswerOf
 ghost use Rattle.cluster_types.specs.declared.journal.Journal.{Journal as JournalOf};
 ghost use Rattle.cluster_types.specs.declared.run.RunLine.{RunLine as LineOf};
 ghost use Rattle.cluster_types.specs.Runs.{RunStanding, due, Runs};
-ghost use Rattle.live_run.specs.AnswersToCome.{Coming, Lines, coming_of};
+ghost use Rattle.live_run.specs.AnswersToCome.{Coming, LineReaderAt, coming_of};
 ghost use Rattle.live_run.specs.Courses.{answers_to_come};
 ghost use Rattle.live_run.specs.declared.line_stop.LineStop.TheVariants.{ReadFault};
 ghost use Rattle.live_run.specs.declared.live_end.LiveEnd.{LiveEnd as LiveEndOf};
@@ -28,5 +28,5 @@ pub fn runs_begin_what_is_due()
 
 /// What is to come of bytes never says that their source has failed: it stops at a line that is refused or goes past the limit, if it stops.
 pub fn lines_say_no_read_fault()
-    ensures { (c : ClusterOf) (lines : Lines) (left : List ℕ) → (coming_of c lines left).stop ≢ Some ReadFault }
+    ensures { (c : ClusterOf) (lines : LineReaderAt) (left : List ℕ) → (coming_of c lines left).stop ≢ Some ReadFault }
 {}

@@ -5,7 +5,7 @@ use Rattle.edges.specs.Loops.{HasNoLoop as NoLoopOfEdges}
 use Rattle.edges.specs.LongestChains.{longest, longest_within}
 use Rattle.edges.proofs.Paths.{loop_or_none}
 use Rattle.cluster_types.specs.declared.cluster.Cluster.{Cluster}
-use Rattle.cluster_types.specs.Numbers.{StepsHaveNoLoop, Link, StepOf, chain_within, is_same_step, links, rank}
+use Rattle.cluster_types.specs.Numbers.{StepsHaveNoLoop, Link, LeafStep, chain_within, is_same_step, links, rank}
 use Rattle.loops.specs.Inner.Edges.{link_edge, step_edges, step_position}
 use Rattle.loops.specs.FirstLoops.{AllOrder}
 use Rattle.loops.proofs.LinkLoops.{BothStand, links_stand, steps_loop, steps_within}
@@ -21,7 +21,7 @@ module _ (c : Cluster) (ordered : AllOrder c) where
     | inr none ↦ none
   ]
 
-  module _ (m : ℕ) (s : StepOf) (next : (t : StepOf) → chain_within c m t ≡ longest_within m (step_edges c) (spot (length c.leaves) t)) where
+  module _ (m : ℕ) (s : LeafStep) (next : (t : LeafStep) → chain_within c m t ≡ longest_within m (step_edges c) (spot (length c.leaves) t)) where
     -- a link into the step is an edge into its position
     one_link : (l : Link) (ls : List Link) (b : Bool) → BothStand (length c.leaves) l → is_same_step l.after s ≡ b
         → map (λ l. chain_within c m l.before + 1) (filter (λ l. is_same_step l.after s) ls)
@@ -52,9 +52,9 @@ module _ (c : Cluster) (ordered : AllOrder c) where
         one_link l ls (is_same_step l.after s) (stand l (at_head l ls l refl)) refl
         (all_links ls (λ k h. stand k (in_rest l ls k h)))
 
-  pub chains_are_ways : (m : ℕ) (s : StepOf) → chain_within c m s ≡ longest_within m (step_edges c) (spot (length c.leaves) s)
+  pub chains_are_ways : (m : ℕ) (s : LeafStep) → chain_within c m s ≡ longest_within m (step_edges c) (spot (length c.leaves) s)
   chains_are_ways zero s = refl
   chains_are_ways (suc m) s = ap (fold max 0) (all_links m s (λ t. chains_are_ways m t) (links c) (links_stand c ordered))
 
-  pub rank_is : (s : StepOf) → rank c s ≡ longest (4 * length c.leaves) (step_edges c) (spot (length c.leaves) s)
+  pub rank_is : (s : LeafStep) → rank c s ≡ longest (4 * length c.leaves) (step_edges c) (spot (length c.leaves) s)
   rank_is s = chains_are_ways (4 * length c.leaves) s

@@ -5,7 +5,7 @@ use Rattle.cluster_types.specs.declared.leaf.Op.{Op}
 use Rattle.cluster_types.specs.declared.leaf.Op.TheVariants.{Start, Stop, Promote, Demote, Monitor}
 use Rattle.cluster_types.specs.declared.rules.Colocation.{Colocation}
 use Rattle.cluster_types.specs.declared.rules.Order.{Order}
-use Rattle.cluster_types.specs.Valid.{IsValidColocation, IsValidOrder, MayHaveRole, MayHaveWord}
+use Rattle.cluster_types.specs.Valid.{IsValidColocation, IsValidOrder, FitsRole, MayHaveWord}
 use Rattle.cluster_types.proofs.RuleLeaves.{role_leaf, word_leaf}
 use Rattle.loops.specs.FirstLoops.{AllJoin, AllOrder, JoinsLeaves, OrdersSteps}
 
@@ -16,7 +16,7 @@ word_changes c r Promote h e = cc
 word_changes c r Demote h e = cc
 word_changes c r Monitor h e = h
 
-pub roles_join : (c : Cluster) (col : Colocation) → MayHaveRole c col.dependent col.dependent_role → MayHaveRole c col.primary col.primary_role
+pub roles_join : (c : Cluster) (col : Colocation) → FitsRole c col.dependent col.dependent_role → FitsRole c col.primary col.primary_role
     → JoinsLeaves c col
 roles_join c col dependent primary = record {
   dependent = role_leaf c col.dependent col.dependent_role dependent;

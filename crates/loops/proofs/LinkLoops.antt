@@ -12,7 +12,7 @@ use Rattle.cluster_types.specs.declared.cluster.Cluster.{Cluster}
 use Rattle.cluster_types.specs.declared.leaf.Op.{Op}
 use Rattle.cluster_types.specs.declared.leaf.Op.TheVariants.{Start, Stop, Promote, Demote, Monitor}
 use Rattle.cluster_types.specs.declared.rules.Order.{Order}
-use Rattle.cluster_types.specs.Numbers.{IsStepLink, StepsHaveNoLoop, Link, StepOf, inverse_links, is_same_step, leaf_links, link, links, order_links}
+use Rattle.cluster_types.specs.Numbers.{IsStepLink, StepsHaveNoLoop, Link, LeafStep, inverse_links, is_same_step, leaf_links, link, links, order_links}
 use Rattle.cluster_types.specs.Precedence.{inverse, is_serialize, is_giving, takers}
 use Rattle.loops.specs.Inner.Edges.{counts_link, link_edge, step_edges, step_position}
 use Rattle.loops.specs.FirstLoops.{AllOrder, OrdersSteps, StepsHaveLoop, reaches}
@@ -94,7 +94,7 @@ module _ (c : Cluster) (o : Order) (ordered : OrdersSteps c o) where
     ]
 
 -- what is found over so many links is a chain of links
-pub links_chain : (c : Cluster) (most : ℕ) (s t : StepOf) → reaches c most s t ≡ true → Chain (IsStepLink c) s t
+pub links_chain : (c : Cluster) (most : ℕ) (s t : LeafStep) → reaches c most s t ≡ true → Chain (IsStepLink c) s t
 links_chain c =
     chain_of (λ (l : Link) s. is_same_step l.before s) (λ (l : Link). l.after) is_same_step (links c) (reaches c) (λ _ _. refl) (λ _ _ _. refl)
     (IsStepLink c) same_step (λ s l h same. let one : IsStepLink c l.before l.after = linked l h in rw (same_step l.before s same) at one)
@@ -113,7 +113,7 @@ module _ (c : Cluster) (ordered : AllOrder c) where
             of_order c f.source (ordered f.source f.among) l f.gives
       ]
 
-  way_for : (e : Edge) (s : StepOf) → Contains (step_edges c) e → e.before ≡ spot (length c.leaves) s
+  way_for : (e : Edge) (s : LeafStep) → Contains (step_edges c) e → e.before ≡ spot (length c.leaves) s
       → WayFor (λ (l : Link) s. is_same_step l.before s) (λ (l : Link). l.after) (links c) (spot (length c.leaves)) e s
   way_for e s h from =
       let m = of_map link_edge (links c) e h in
@@ -137,7 +137,7 @@ module _ (c : Cluster) (ordered : AllOrder c) where
         here = sym (ap (λ (x : Edge). x.before) m.gives) ∙ position_is (length c.leaves) m.source.before b.first;
       }
 
-  alike : (l : Link) (t : StepOf) → Contains (links c) l
+  alike : (l : Link) (t : LeafStep) → Contains (links c) l
       → is_same_step l.after t ≡ (spot (length c.leaves) l.after == spot (length c.leaves) t)
   alike l t h = let b = links_stand l h in steps_alike (length c.leaves) l.after t b.later
 
@@ -160,7 +160,7 @@ module _ (c : Cluster) (ordered : AllOrder c) where
       record { step = one.thing; loop = links_chain c (4 * length c.leaves) one.thing one.thing one.follows }
 
   -- a height of the edges rises along each link
-  link_rises : (rising : RiseSomehow (step_edges c)) (s t : StepOf) → IsStepLink c s t
+  link_rises : (rising : RiseSomehow (step_edges c)) (s t : LeafStep) → IsStepLink c s t
       → rising.height (spot (length c.leaves) s) < rising.height (spot (length c.leaves) t)
   link_rises rising _ _ (linked l h) =
       let b = links_stand l h in

@@ -16,7 +16,7 @@ use Rattle.cluster_types.specs.declared.placement.Decision.{Decision}
 use Rattle.cluster_types.specs.declared.rules.Colocation.{Colocation}
 use Rattle.cluster_types.specs.declared.rules.Order.{Order}
 use Rattle.cluster_types.specs.Decisions.{NeedsHaveNoLoop, all_decisions, is_same_decision, needs, needs_through}
-use Rattle.cluster_types.specs.Numbers.{StepsHaveNoLoop, Link, StepOf, is_same_step, links}
+use Rattle.cluster_types.specs.Numbers.{StepsHaveNoLoop, Link, LeafStep, is_same_step, links}
 use Rattle.loops.specs.Inner.Edges.{colocation_edge, leaf_edges, need_edges, step_edges}
 use Rattle.loops.specs.FirstLoops.{AllJoin, AllOrder, IsFirstColocation, IsFirstOrder, NeedsHaveLoop, StepsHaveLoop, has_need_loop, has_step_loop, is_closed_by, reaches, with_first_colocations, with_first_orders}
 use Rattle.lemmas.proofs.Members.{in_none}
@@ -62,13 +62,13 @@ module _ (c : Cluster) where
   needs_tested joined = (need_of_none joined, λ free. false_from_ne_true _ (λ h. let l = loop_of_need h in free l.decision l.loop))
 
 -- the first link of a chain from a step
-record Begins (c : Cluster) (s : StepOf) : Type 0 where
+record Begins (c : Cluster) (s : LeafStep) : Type 0 where
   pub way : Link
   pub among : Contains (links c) way
   pub from : way.before ≡ s
 
 module _ (c : Cluster) where
-  begins : (most : ℕ) (s t : StepOf) → reaches c most s t ≡ true → Begins c s
+  begins : (most : ℕ) (s t : LeafStep) → reaches c most s t ≡ true → Begins c s
   begins zero s t h = absurd cc
   begins (suc most) s t h = on (Any-from_list_any (λ l. is_same_step l.before s && (is_same_step l.after t || reaches c most l.after t)) (links c) h) where
     on : Any (λ l. is_same_step l.before s && (is_same_step l.after t || reaches c most l.after t) ≡ true) (links c) → Begins c s

@@ -2,7 +2,7 @@
 use Rattle.std.proofs.Common.{arith, ◌≡◌, ◌<◌, ◌≤◌, ◌+◌, ◌*◌, ℕ, suc, zero, List, [], ◌∷◌, length, map, fold, max, refl, sym, ◌∙◌, ap, Contains}
 use Rattle.edges.proofs.Longest.{fold_each, longest_are_heights, longest_bounded, map_alike}
 use Rattle.cluster_types.specs.declared.cluster.Cluster.{Cluster}
-use Rattle.cluster_types.specs.Numbers.{StepsHaveNoLoop, Link, StepOf, is_same_step, links, rank}
+use Rattle.cluster_types.specs.Numbers.{StepsHaveNoLoop, Link, LeafStep, is_same_step, links, rank}
 use Rattle.cluster_types.specs.Valid.{IsValid}
 use Rattle.loops.specs.Inner.Edges.{step_edges}
 use Rattle.loops.specs.FirstLoops.{AllOrder}
@@ -14,7 +14,7 @@ use Rattle.loops.specs.Ranks.{IsRanking, links_into}
 use Rattle.loops.proofs.ChainWays.{chains_are_ways, edges_free, rank_is}
 
 -- a ranking rises along each link
-pub ranking_rises : (c : Cluster) (height : StepOf → ℕ) → IsRanking c height → (l : Link) → Contains (links c) l → height l.before < height l.after
+pub ranking_rises : (c : Cluster) (height : LeafStep → ℕ) → IsRanking c height → (l : Link) → Contains (links c) l → height l.before < height l.after
 ranking_rises c height is l h =
     let into : Contains (links_into c l.after) l
     = in_filter (λ (k : Link). is_same_step k.after l.after) (links c) l h (step_itself l.after) in
@@ -30,7 +30,7 @@ module _ (c : Cluster) (ordered : AllOrder c) (free : StepsHaveNoLoop c) where
       ∙ longest_are_heights (4 * length c.leaves) (step_edges c) (steps_within c ordered) (edges_free c ordered free) (spot (length c.leaves) s)
       ∙ sym (chains_are_ways c ordered (suc (4 * length c.leaves)) s)
 
-  pub rank_bounded : (s : StepOf) → rank c s ≤ 4 * length c.leaves
+  pub rank_bounded : (s : LeafStep) → rank c s ≤ 4 * length c.leaves
   rank_bounded s =
       let r = rank_is c ordered s in
       let b = longest_bounded (4 * length c.leaves) (step_edges c) (spot (length c.leaves) s) in
@@ -39,14 +39,14 @@ module _ (c : Cluster) (ordered : AllOrder c) (free : StepsHaveNoLoop c) where
   pub rank_rises : (l : Link) → Contains (links c) l → rank c l.before < rank c l.after
   rank_rises l h = ranking_rises c (rank c) rank_ranks l h
 
-  module _ (height : StepOf → ℕ) (is : IsRanking c height) where
-    before_lower : (s : StepOf) (l : Link) → Contains (links_into c s) l → rank c l.before < rank c s
+  module _ (height : LeafStep → ℕ) (is : IsRanking c height) where
+    before_lower : (s : LeafStep) (l : Link) → Contains (links_into c s) l → rank c l.before < rank c s
     before_lower s l h =
         let k = of_filter (λ (k : Link). is_same_step k.after s) (links c) l h in
         let same : l.after ≡ s = same_step l.after s k.passes in
         rw same at (rank_rises l k.among)
 
-    agrees : (m : ℕ) (s : StepOf) → rank c s ≤ m → height s ≡ rank c s
+    agrees : (m : ℕ) (s : LeafStep) → rank c s ≤ m → height s ≡ rank c s
     agrees zero s le =
         let none : links_into c s ≡ [] = no_link (links_into c s) (before_lower s) in
         is s ∙ ap (λ (ls : List Link). fold max 0 (map (λ l. height l.before + 1) ls)) none
@@ -61,7 +61,7 @@ module _ (c : Cluster) (ordered : AllOrder c) (free : StepsHaveNoLoop c) where
         let lower = before_lower s l h in agrees m l.before (omega arith)))
         ∙ sym (rank_ranks s)
 
-    pub one_ranking : (s : StepOf) → height s ≡ rank c s
+    pub one_ranking : (s : LeafStep) → height s ≡ rank c s
     one_ranking s = agrees (rank c s) s (omega arith)
 
 -- in a valid cluster it rises along each link

@@ -4,7 +4,7 @@ use Rattle.std.specs.Prelude.{◌↔◌}
 use Rattle.std.proofs.lemmas.Bool.{cases_eq}
 use Rattle.edges.specs.Chains.{ChainEnds, linked, no_link, then_link}
 use Rattle.cluster_types.specs.declared.cluster.Cluster.{Cluster}
-use Rattle.cluster_types.specs.Numbers.{StepsHaveNoLoop, IsRank, IsStepLink, Link, StepOf, is_same_step, links, rank}
+use Rattle.cluster_types.specs.Numbers.{StepsHaveNoLoop, IsRank, IsStepLink, Link, LeafStep, is_same_step, links, rank}
 use Rattle.lemmas.proofs.Members.{at_head, in_rest, of_filter}
 use Rattle.loops.specs.FirstLoops.{AllOrder}
 use Rattle.loops.specs.Ranks.{links_into}
@@ -30,19 +30,19 @@ top {X} height a k (x ∷ xs) e = on (top height (max a (height x + 1)) k xs e) 
   on (inr r) = inr (record { highest = r.highest; among = in_rest x xs r.highest r.among; high = r.high })
 
 module _ (c : Cluster) (ordered : AllOrder c) (free : StepsHaveNoLoop c) where
-  chains_are_short : (m : ℕ) (s : StepOf) → ChainEnds (IsStepLink c) m s → m ≤ rank c s
+  chains_are_short : (m : ℕ) (s : LeafStep) → ChainEnds (IsStepLink c) m s → m ≤ rank c s
   chains_are_short _ _ (no_link s) = omega arith
   chains_are_short _ _ (then_link n _ _ before (linked l h)) =
       let so_far : n ≤ rank c l.before = chains_are_short n l.before before in
       let up : rank c l.before < rank c l.after = rank_rises c ordered free l h in
       omega arith
 
-  chain_to : (k : ℕ) (s : StepOf) → rank c s ≡ k → ChainEnds (IsStepLink c) k s
+  chain_to : (k : ℕ) (s : LeafStep) → rank c s ≡ k → ChainEnds (IsStepLink c) k s
   chain_to zero s e = no_link s
   chain_to (suc k) s e =
       last (top (λ (l : Link). rank c l.before) 0 k (links_into c s) (sym (rank_ranks c ordered free s) ∙ e)) (λ t. chain_to k t)
     where
-      last : (0 ≡ suc k) ⊎ Reaches (λ (l : Link). rank c l.before) (links_into c s) k → ((t : StepOf) → rank c t ≡ k → ChainEnds (IsStepLink c) k t)
+      last : (0 ≡ suc k) ⊎ Reaches (λ (l : Link). rank c l.before) (links_into c s) k → ((t : LeafStep) → rank c t ≡ k → ChainEnds (IsStepLink c) k t)
           → ChainEnds (IsStepLink c) (suc k) s
       last (inl none) next = absurd (let f : ⊥ = omega arith in f)
       last (inr r) next =
@@ -51,14 +51,14 @@ module _ (c : Cluster) (ordered : AllOrder c) (free : StepsHaveNoLoop c) where
           let one : IsStepLink c r.highest.before r.highest.after = linked r.highest m.among in
           then_link k r.highest.before s (next r.highest.before r.high) (rw same at one)
 
-  is_rank : (s : StepOf) → IsRank c s (rank c s)
+  is_rank : (s : LeafStep) → IsRank c s (rank c s)
   is_rank s = record { chain = chain_to (rank c s) s refl; longest = λ m h. chains_are_short m s h }
 
-  one_rank : (s : StepOf) (count : ℕ) → IsRank c s count → count ≡ rank c s
+  one_rank : (s : LeafStep) (count : ℕ) → IsRank c s count → count ≡ rank c s
   one_rank s count is =
       let up : count ≤ rank c s = chains_are_short count s is.chain in
       let down : rank c s ≤ count = is.longest (rank c s) (chain_to (rank c s) s refl) in
       omega arith
 
-  pub rank_computed : (s : StepOf) (count : ℕ) → IsRank c s count ↔ (count ≡ rank c s)
+  pub rank_computed : (s : LeafStep) (count : ℕ) → IsRank c s count ↔ (count ≡ rank c s)
   rank_computed s count = (one_rank s count, λ e. subst (λ (k : ℕ). IsRank c s k) (sym e) (is_rank s))

@@ -4,13 +4,13 @@ use Rattle.std.proofs.lemmas.Bool.{ne_eqb, and_from}
 use Rattle.lemmas.proofs.Booleans.{sooner, later}
 use Rattle.cluster_types.specs.declared.leaf.Op.{Op}
 use Rattle.cluster_types.specs.declared.leaf.Op.TheVariants.{Start, Stop, Promote, Demote, Monitor}
-use Rattle.cluster_types.specs.Numbers.{StepOf, is_same_step}
+use Rattle.cluster_types.specs.Numbers.{LeafStep, is_same_step}
 use Rattle.cluster_types.specs.Precedence.{inverse, is_same_op}
 use Rattle.cluster_types.proofs.OpLaws.{op_itself}
 use Rattle.loops.specs.Inner.Edges.{op_number, step_position}
 
 -- the step is of a leaf that is there, and is no monitor
-pub record Stands (leaves : ℕ) (s : StepOf) : Type 0 where
+pub record Stands (leaves : ℕ) (s : LeafStep) : Type 0 where
   pub within : s.leaf < leaves
   pub changes : s.what ≢ Monitor
 
@@ -19,7 +19,7 @@ abbrev pub spot_of : ℕ → Op → ℕ → ℕ
 spot_of leaves Monitor r = 4 * (leaves + r)
 spot_of leaves o r = 4 * r + op_number o
 
-abbrev pub spot : ℕ → StepOf → ℕ
+abbrev pub spot : ℕ → LeafStep → ℕ
 spot leaves s = spot_of leaves s.what s.leaf
 
 pub same_op : (o p : Op) → is_same_op o p ≡ true → o ≡ p
@@ -81,21 +81,21 @@ same_spot_of n Monitor Promote r s ne lt h = absurd (ne refl)
 same_spot_of n Monitor Demote r s ne lt h = absurd (ne refl)
 same_spot_of n Monitor Monitor r s ne lt h = absurd (ne refl)
 
-step_is : (a b : StepOf) → a.what ≡ b.what → a.leaf ≡ b.leaf → a ≡ b
+step_is : (a b : LeafStep) → a.what ≡ b.what → a.leaf ≡ b.leaf → a ≡ b
 step_is a b w l = ap (λ (o : Op). record a { what = o }) w ∙ ap (λ (r : ℕ). record b { leaf = r }) l
 
-pub same_step : (a b : StepOf) → is_same_step a b ≡ true → a ≡ b
+pub same_step : (a b : LeafStep) → is_same_step a b ≡ true → a ≡ b
 same_step a b h =
     let leaves : (a.leaf == b.leaf) ≡ true = later (is_same_op a.what b.what) _ h in
     step_is a b (same_op a.what b.what (sooner (is_same_op a.what b.what) _ h)) (grind arith)
 
-pub step_itself : (a : StepOf) → is_same_step a a ≡ true
+pub step_itself : (a : LeafStep) → is_same_step a a ≡ true
 step_itself a = and_from (is_same_op a.what a.what) _ (op_itself a.what) (grind arith)
 
-pub same_spot : (n : ℕ) (a b : StepOf) → Stands n a → spot n a ≡ spot n b → a ≡ b
+pub same_spot : (n : ℕ) (a b : LeafStep) → Stands n a → spot n a ≡ spot n b → a ≡ b
 same_spot n a b s h = let k = same_spot_of n a.what b.what a.leaf b.leaf s.changes s.within h in step_is a b k.op k.leaf
 
-pub steps_alike : (n : ℕ) (a b : StepOf) → Stands n a → is_same_step a b ≡ (spot n a == spot n b)
+pub steps_alike : (n : ℕ) (a b : LeafStep) → Stands n a → is_same_step a b ≡ (spot n a == spot n b)
 steps_alike n a b s = on (is_same_step a b) refl where
   on : (t : Bool) → is_same_step a b ≡ t → is_same_step a b ≡ (spot n a == spot n b)
   on true h = let p : spot n a ≡ spot n b = ap (spot n) (same_step a b h) in grind arith
@@ -110,7 +110,7 @@ position_of n Promote r ne = refl
 position_of n Demote r ne = refl
 position_of n Monitor r ne = absurd (ne refl)
 
-pub position_is : (n : ℕ) (s : StepOf) → Stands n s → step_position s ≡ spot n s
+pub position_is : (n : ℕ) (s : LeafStep) → Stands n s → step_position s ≡ spot n s
 position_is n s t = position_of n s.what s.leaf t.changes
 
 number_below : (o : Op) → op_number o < 4
@@ -120,7 +120,7 @@ number_below Promote = omega arith
 number_below Demote = omega arith
 number_below Monitor = omega arith
 
-pub position_within : (n : ℕ) (s : StepOf) → Stands n s → step_position s < 4 * n
+pub position_within : (n : ℕ) (s : LeafStep) → Stands n s → step_position s < 4 * n
 position_within n s t = let b = number_below s.what in let w = t.within in omega arith
 
 pub inverse_changes : (o : Op) → o ≢ Monitor → inverse o ≢ Monitor

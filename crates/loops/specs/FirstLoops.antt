@@ -8,7 +8,7 @@ use Rattle.cluster_types.specs.declared.placement.Decision.{Decision}
 use Rattle.cluster_types.specs.declared.rules.Colocation.{Colocation}
 use Rattle.cluster_types.specs.declared.rules.Order.{Order}
 use Rattle.cluster_types.specs.Decisions.{IsNeedLink, NeedsHaveNoLoop, all_decisions, needs_through}
-use Rattle.cluster_types.specs.Numbers.{IsStepLink, StepsHaveNoLoop, StepOf, is_same_step, links}
+use Rattle.cluster_types.specs.Numbers.{IsStepLink, StepsHaveNoLoop, LeafStep, is_same_step, links}
 
 -- both leaves of the colocation are there
 pub record JoinsLeaves (c : Cluster) (col : Colocation) : Type 0 where
@@ -43,7 +43,7 @@ pub record NeedsHaveLoop (c : Cluster) : Type 0 where
 
 -- a chain of links leads from some step back to it
 pub record StepsHaveLoop (c : Cluster) : Type 0 where
-  pub step : StepOf
+  pub step : LeafStep
   pub loop : Chain (IsStepLink c) step step
 
 -- some decision needs itself, computed: no chain has to have more needs than there are decisions (`loops_are_computed`)
@@ -51,7 +51,7 @@ abbrev pub has_need_loop : Cluster → Bool
 has_need_loop c = list_any (λ d. needs_through c (all_decisions c) (length (all_decisions c)) d d) (all_decisions c)
 
 -- a chain of at most so many links leads from the one step to the other
-abbrev pub reaches : Cluster → ℕ → StepOf → StepOf → Bool
+abbrev pub reaches : Cluster → ℕ → LeafStep → LeafStep → Bool
 reaches c zero s t = false
 reaches c (suc most) s t = list_any (λ l. is_same_step l.before s && (is_same_step l.after t || reaches c most l.after t)) (links c)
 

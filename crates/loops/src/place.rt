@@ -37,7 +37,7 @@ pub struct Place {
 }
 
 impl Model for Place {
-    ghost use Rattle.cluster_types.specs.Numbers.{Place as PlaceOf, place};
+    ghost use Rattle.cluster_types.specs.Numbers.{ActionPlace as PlaceOf, place};
 
     ghost Value = { PlaceOf };
 

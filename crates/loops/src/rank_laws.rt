@@ -2,13 +2,13 @@
 
 ghost use Rattle.std.specs.Prelude.{◌≡◌, ◌<◌, ◌↔◌, ℕ, Contains};
 ghost use Rattle.cluster_types.specs.declared.cluster.Cluster.{Cluster};
-ghost use Rattle.cluster_types.specs.Numbers.{StepsHaveNoLoop, IsRank, Link, StepOf, links, rank};
+ghost use Rattle.cluster_types.specs.Numbers.{StepsHaveNoLoop, IsRank, Link, LeafStep, links, rank};
 ghost use Rattle.loops.specs.FirstLoops.{AllOrder};
 ghost use Rattle.loops.specs.Ranks.{IsRanking};
 
 /// What `rank` computes is the rank of the step, the length of the longest chain of links that ends at it, and no other number is.
 pub fn rank_is_computed()
-    ensures { (c : Cluster) → AllOrder c → StepsHaveNoLoop c → (s : StepOf) (count : ℕ) → IsRank c s count ↔ (count ≡ rank c s) }
+    ensures { (c : Cluster) → AllOrder c → StepsHaveNoLoop c → (s : LeafStep) (count : ℕ) → IsRank c s count ↔ (count ≡ rank c s) }
 {}
 
 /// The rank of a step is one more than the greatest rank of those that a link has before it, and 0 where there are none: the bound that
@@ -19,7 +19,7 @@ pub fn ranks_are_longest_chains()
 
 /// Nothing else is made up so.
 pub fn ranks_are_unique()
-    ensures { (c : Cluster) → AllOrder c → StepsHaveNoLoop c → (height : StepOf → ℕ) → IsRanking c height → (s : StepOf) → height s ≡ rank c s }
+    ensures { (c : Cluster) → AllOrder c → StepsHaveNoLoop c → (height : LeafStep → ℕ) → IsRanking c height → (s : LeafStep) → height s ≡ rank c s }
 {}
 
 /// Ranks rise along each link.

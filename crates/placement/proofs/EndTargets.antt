@@ -14,7 +14,7 @@ use Rattle.cluster_types.specs.declared.placement.Target.TheVariants as target
 use Rattle.cluster_types.specs.declared.rules.Colocation.{Colocation}
 use Rattle.cluster_types.specs.declared.rules.Order.{Order}
 use Rattle.cluster_types.specs.Decisions.{decision_of}
-use Rattle.cluster_types.specs.Held.{AreTargets, ColocationCanHoldBack, Held, KeepsTarget, LacksFirst, LacksPrimary, OrderCanHoldBack}
+use Rattle.cluster_types.specs.Held.{AreTargets, ColocationCanHoldBack, Held, IsFinalTarget, LacksFirst, LacksPrimary, OrderCanHoldBack}
 use Rattle.cluster_types.specs.LeastSets.{IsClosedUnderHolding}
 use Rattle.cluster_types.specs.Pins.{pin_of}
 use Rattle.cluster_types.specs.Precedence.{is_mandatory_order, is_giving, role_given}
@@ -94,7 +94,7 @@ module _ (c : Cluster) (es : List Event) (chosen left : Targets) (is : IsLeft c 
     held_has_gone : (d : Decision) (n : ℕ) → Held c es chosen d n → HasGone left d n
     held_has_gone d n h = held-least c es chosen (HasGone left) closed d n h
 
-    kept : (r n : ℕ) (t : Target) → left r n ≡ t → KeepsTarget c es chosen r n t
+    kept : (r n : ℕ) (t : Target) → left r n ≡ t → IsFinalTarget c es chosen r n t
     kept r n target.Nowhere e = λ h. is.held r role.Started n h (ap is_somewhere e)
     kept r n target.Started e = (
       is.within r role.Started n (ap is_somewhere e),

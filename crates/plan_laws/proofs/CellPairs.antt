@@ -12,7 +12,7 @@ use Rattle.cluster_types.specs.declared.leaf.Role.TheVariants as role
 use Rattle.cluster_types.specs.Fields.{copies, is_promotable}
 use Rattle.cluster_types.specs.NeededActions.{Needed}
 use Rattle.cluster_types.specs.Numbers.{Link, is_place_before, is_earlier, link, links, action_place, rank, step_of}
-use Rattle.cluster_types.specs.Precedence.{CellOf, both, change_cell, comes_first_in_cell, demotes_first, fences_first, gives_any, is_migrating, is_one_cell, is_one_leaf, is_some_cell, op_cell, probe_cell, probes_first, stops_first}
+use Rattle.cluster_types.specs.Precedence.{LeafOnNode, both, change_cell, comes_first_in_cell, demotes_first, fences_first, gives_any, is_migrating, is_one_cell, is_one_leaf, is_some_cell, op_cell, probe_cell, probes_first, stops_first}
 use Rattle.cluster_types.specs.Tables.{Targets, holds_role}
 use Rattle.plan_laws.proofs.Links.{link_of_leaf}
 use Rattle.plan_laws.proofs.NeededActions.{bounds_of_cell, gets_step, promotable_by_demote, target_by_promote}
@@ -23,7 +23,7 @@ use Rattle.plan_laws.proofs.Words.{OfCell, of_cell, both_there, cell_there}
 module _ (c : Cluster) (es : List Event) (targets : Targets) (actions : List Action) (needs : (a : Action) → Contains actions a → Needed c es targets a)
     (rise : (l : Link) → Contains (links c) l → rank c l.before < rank c l.after)
     (roles : (r n : ℕ) → r < length c.leaves → n < length c.nodes → holds_role targets r role.Promoted n ≡ true → is_promotable c r ≡ true) where
-  probe_upward : (x y : Action) (a : CellOf) (s : ℕ) → probe_cell x ≡ Some a → GivesTo y s → is_earlier c actions x y ≡ true
+  probe_upward : (x y : Action) (a : LeafOnNode) (s : ℕ) → probe_cell x ≡ Some a → GivesTo y s → is_earlier c actions x y ≡ true
   probe_upward (Probe r n) _ a _ h (gives_start s m i role) = refl
   probe_upward (Probe r n) _ a _ h (gives_sent s f t) = refl
   probe_upward (Probe r n) _ a _ h (gives_promote s m i role) = refl
@@ -62,7 +62,7 @@ module _ (c : Cluster) (es : List Event) (targets : Targets) (actions : List Act
   pub fences_upward : (x y : Action) → fences_first x y ≡ true → is_earlier c actions x y ≡ true
   fences_upward (Fence n) y h = go (gives_any y) refl h
     where
-      go : (v : Option CellOf) → gives_any y ≡ v → is_some_cell v ≡ true → is_earlier c actions (Fence n) y ≡ true
+      go : (v : Option LeafOnNode) → gives_any y ≡ v → is_some_cell v ≡ true → is_earlier c actions (Fence n) y ≡ true
       go (Some a) e k = fence_upward n y a.leaf (given_any y a e)
       go None e k = cc
   fences_upward (Probe r n) y h = cc
@@ -105,7 +105,7 @@ module _ (c : Cluster) (es : List Event) (targets : Targets) (actions : List Act
       (in_rest (link op.Demote s op.Stop s) (link op.Start s op.Promote s ∷ []) (link op.Start s op.Promote s) (at_head (link op.Start s op.Promote s) [] (link op.Start s op.Promote s) refl))) in
       gives_by_rank _ _ r s n m 0 0 (subst (λ v. nat_lt (rank c (step_of op.Start v)) (rank c (step_of op.Promote s)) ≡ true) (sym same) (lt-ltb _ _ up))
 
-  change_monitor : (x y : Action) (a : CellOf) (s m : ℕ) → change_cell x ≡ Some a → OfCell op.Monitor y s m → is_earlier c actions x y ≡ true
+  change_monitor : (x y : Action) (a : LeafOnNode) (s m : ℕ) → change_cell x ≡ Some a → OfCell op.Monitor y s m → is_earlier c actions x y ≡ true
   change_monitor (Operation op.Start r n i role) _ a _ _ h (of_cell s m j other) = refl
   change_monitor (Operation op.Stop r n i role) _ a _ _ h (of_cell s m j other) = go (is_migrating actions r) where
     go : (b : Bool) → is_place_before (stop_place c actions r n b) (action_place c actions (Operation op.Monitor s m j other)) ≡ true
@@ -119,7 +119,7 @@ module _ (c : Cluster) (es : List Event) (targets : Targets) (actions : List Act
   change_monitor (MigrateTo r f t) y a s m h k = cc
   change_monitor (MigrateFrom r f t) y a s m h k = cc
 
-  one_leaf : (a b : CellOf) → is_one_cell a b ≡ true → a.leaf ≡ b.leaf
+  one_leaf : (a b : LeafOnNode) → is_one_cell a b ≡ true → a.leaf ≡ b.leaf
   one_leaf a b h = eqb-true a.leaf b.leaf (and_parts (a.leaf == b.leaf) (a.node == b.node) h).0
 
   pub in_cell_upward : (x y : Action) → Contains actions x → Contains actions y → comes_first_in_cell x y ≡ true → is_earlier c actions x y ≡ true

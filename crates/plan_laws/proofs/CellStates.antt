@@ -8,7 +8,7 @@ use Rattle.cluster_types.specs.declared.journal.Event.{Event}
 use Rattle.cluster_types.specs.declared.placement.Pin.TheVariants.{Unmanaged, Blocked}
 use Rattle.cluster_types.specs.declared.states.CellState.{CellState}
 use Rattle.cluster_types.specs.declared.states.CellState.TheVariants as cell
-use Rattle.cluster_types.specs.CellStates.{cell_state, is_blocked, is_left_open, last_outcome}
+use Rattle.cluster_types.specs.CellStates.{cell_state, is_blocked, is_unclear, last_outcome}
 use Rattle.cluster_types.specs.Fields.{is_managed}
 use Rattle.cluster_types.specs.May.{may_be_running, may_be_promoted}
 use Rattle.cluster_types.specs.NodeStates.{is_online}
@@ -47,10 +47,10 @@ said true false false o false false = (refl, refl, refl, refl, refl)
 
 module _ (c : Cluster) (r n : ℕ) (es : List Event) where
   pub says_of : (s : CellState) → cell_state c r n es ≡ s
-      → Says s (is_online c n es) (is_none (last_outcome c r n es)) (is_blocked c r n es) (is_left_open c r n es) (may_be_promoted c r n es) (may_be_running c r n es)
+      → Says s (is_online c n es) (is_none (last_outcome c r n es)) (is_blocked c r n es) (is_unclear c r n es) (may_be_promoted c r n es) (may_be_running c r n es)
   says_of s e =
-      subst (λ z. Says z (is_online c n es) (is_none (last_outcome c r n es)) (is_blocked c r n es) (is_left_open c r n es) (may_be_promoted c r n es) (may_be_running c r n es)) e
-      (said (is_online c n es) (is_none (last_outcome c r n es)) (is_blocked c r n es) (is_left_open c r n es) (may_be_promoted c r n es) (may_be_running c r n es))
+      subst (λ z. Says z (is_online c n es) (is_none (last_outcome c r n es)) (is_blocked c r n es) (is_unclear c r n es) (may_be_promoted c r n es) (may_be_running c r n es)) e
+      (said (is_online c n es) (is_none (last_outcome c r n es)) (is_blocked c r n es) (is_unclear c r n es) (may_be_promoted c r n es) (may_be_running c r n es))
 
   -- a blocked cell pins its leaf
   pub blocked_pins : n < length c.nodes → is_blocked_state (cell_state c r n es) ≡ true → is_pinned c es r ≡ true

@@ -15,7 +15,7 @@ use Rattle.cluster_types.specs.declared.rules.Order.{Order}
 use Rattle.cluster_types.specs.declared.rules.OrderKind.TheVariants as kind
 use Rattle.cluster_types.specs.Choice.{is_mandatory}
 use Rattle.cluster_types.specs.Decisions.{decision_of}
-use Rattle.cluster_types.specs.Held.{AreTargets, Held, by_order, by_colocation, by_place, KeepsTarget, OrderCanHoldBack, ColocationCanHoldBack}
+use Rattle.cluster_types.specs.Held.{AreTargets, Held, by_order, by_colocation, by_place, IsFinalTarget, OrderCanHoldBack, ColocationCanHoldBack}
 use Rattle.cluster_types.specs.Pins.{is_pinned}
 use Rattle.cluster_types.specs.Tables.{Targets, holds_role, is_in_scope, target_holds}
 use Rattle.cluster_types.specs.Valid.{IsValid}
@@ -26,7 +26,7 @@ use Rattle.cluster_types.specs.Precedence.{is_giving, role_given}
 
 module _ (c : Cluster) (es : List Event) (table : Targets) where
   module _ (r n : ℕ) where
-    one_target : (t u : Target) → KeepsTarget c es table r n t → KeepsTarget c es table r n u → t ≡ u
+    one_target : (t u : Target) → IsFinalTarget c es table r n t → IsFinalTarget c es table r n u → t ≡ u
     one_target target.Nowhere target.Nowhere h k = refl
     one_target target.Nowhere target.Started h k = absurd (k.1 (h k.0))
     one_target target.Nowhere target.Promoted h k = absurd (k.1 (by_place r n k.0 (h (promoted_somewhere (table r n) k.0))))
@@ -38,7 +38,7 @@ module _ (c : Cluster) (es : List Event) (table : Targets) where
     one_target target.Promoted target.Promoted h k = refl
 
     -- a role that was chosen and isn't a target is held back
-    back_on : (t : Target) (given : Role) → KeepsTarget c es table r n t → holds_role table r given n ≡ true → target_holds t given ≡ false
+    back_on : (t : Target) (given : Role) → IsFinalTarget c es table r n t → holds_role table r given n ≡ true → target_holds t given ≡ false
         → Held c es table (decision_of r given) n
     back_on target.Nowhere role.Started k h f = k h
     back_on target.Nowhere role.Promoted k h f = by_place r n h (k (promoted_somewhere (table r n) h))
@@ -48,7 +48,7 @@ module _ (c : Cluster) (es : List Event) (table : Targets) where
     back_on target.Promoted role.Promoted k h f = cc
 
     -- a role of a target was chosen, and isn't held back
-    chosen_on : (t : Target) (given : Role) → KeepsTarget c es table r n t → target_holds t given ≡ true → holds_role table r given n ≡ true
+    chosen_on : (t : Target) (given : Role) → IsFinalTarget c es table r n t → target_holds t given ≡ true → holds_role table r given n ≡ true
     chosen_on target.Nowhere role.Started k h = cc
     chosen_on target.Nowhere role.Promoted k h = cc
     chosen_on target.Started role.Started k h = k.0
@@ -56,7 +56,7 @@ module _ (c : Cluster) (es : List Event) (table : Targets) where
     chosen_on target.Promoted role.Started k h = promoted_somewhere (table r n) k.0
     chosen_on target.Promoted role.Promoted k h = k.0
 
-    free_on : (t : Target) (given : Role) → KeepsTarget c es table r n t → target_holds t given ≡ true → Held c es table (decision_of r given) n → ⊥
+    free_on : (t : Target) (given : Role) → IsFinalTarget c es table r n t → target_holds t given ≡ true → Held c es table (decision_of r given) n → ⊥
     free_on target.Nowhere role.Started k h b = cc
     free_on target.Nowhere role.Promoted k h b = cc
     free_on target.Started role.Started k h b = k.1 b
@@ -65,15 +65,15 @@ module _ (c : Cluster) (es : List Event) (table : Targets) where
     free_on target.Promoted role.Promoted k h b = k.1 b
 
   module _ (targets : Targets) where
-    pub back : (r n : ℕ) (given : Role) → KeepsTarget c es table r n (targets r n) → holds_role table r given n ≡ true → holds_role targets r given n ≡ false → Held c es table (decision_of r given) n
+    pub back : (r n : ℕ) (given : Role) → IsFinalTarget c es table r n (targets r n) → holds_role table r given n ≡ true → holds_role targets r given n ≡ false → Held c es table (decision_of r given) n
     back r n role.Started k h f = back_on r n (targets r n) role.Started k h f
     back r n role.Promoted k h f = back_on r n (targets r n) role.Promoted k h f
 
-    pub chosen : (r n : ℕ) (given : Role) → KeepsTarget c es table r n (targets r n) → holds_role targets r given n ≡ true → holds_role table r given n ≡ true
+    pub chosen : (r n : ℕ) (given : Role) → IsFinalTarget c es table r n (targets r n) → holds_role targets r given n ≡ true → holds_role table r given n ≡ true
     chosen r n role.Started k h = chosen_on r n (targets r n) role.Started k h
     chosen r n role.Promoted k h = chosen_on r n (targets r n) role.Promoted k h
 
-    pub free : (r n : ℕ) (given : Role) → KeepsTarget c es table r n (targets r n) → holds_role targets r given n ≡ true → Held c es table (decision_of r given) n → ⊥
+    pub free : (r n : ℕ) (given : Role) → IsFinalTarget c es table r n (targets r n) → holds_role targets r given n ≡ true → Held c es table (decision_of r given) n → ⊥
     free r n role.Started k h b = free_on r n (targets r n) role.Started k h b
     free r n role.Promoted k h b = free_on r n (targets r n) role.Promoted k h b
 

@@ -24,7 +24,7 @@ use Rattle.cluster_types.specs.Rights.{may_keep, may_start}
 use Rattle.cluster_types.specs.Tables.{Targets, holds_role, is_somewhere, targets_of}
 use Rattle.cluster_types.specs.Terms.{active_count}
 use Rattle.cluster_types.proofs.NeededLaws.{can_be_cycled}
-use Rattle.plan_laws.specs.Placing.{MayGiveRole}
+use Rattle.plan_laws.specs.Placing.{CanBeGivenRole}
 use Rattle.plan_laws.proofs.ChosenTargets.{fitted}
 use Rattle.plan_laws.proofs.NeededSteps.{MustBeGiven, given_again, given_anew, StepGives, started, promoted}
 use Rattle.plan_laws.proofs.StayHeld.{holds_is}
@@ -66,12 +66,12 @@ module _ (c : Cluster) (es : List Event) where
     targets = targets_of placed.table
 
     gives_with : (r n : ℕ) (given : Role) → r < length c.leaves → n < length c.nodes → is_pinned c es r ≡ false → holds_role targets r given n ≡ true
-        → (is_permitted c es (decision_of r given) n ≡ true → may_start c es ≡ true) → MayGiveRole c es targets r n given
+        → (is_permitted c es (decision_of r given) n ≡ true → may_start c es ≡ true) → CanBeGivenRole c es targets r n given
     gives_with r n given low within free held may =
         let f = fitted c es ps placed is r n given low within free held in
         record { leaf = low; node = within; free = free; target = held; usable = f.usable; may = may f.permitted }
 
-    pub gives : (r n : ℕ) (o : Op) (given : Role) → r < length c.leaves → n < length c.nodes → StepGives o given → GetsStep c es targets r n o → MayGiveRole c es targets r n given
+    pub gives : (r n : ℕ) (o : Op) (given : Role) → r < length c.leaves → n < length c.nodes → StepGives o given → GetsStep c es targets r n o → CanBeGivenRole c es targets r n given
     gives r n o given low within word (inl (cycled, there)) =
         let s : Steps targets r n o true = steps targets r n o true there in
         gives_with r n given low within s.free (holds_is targets r given n ∙ given_again (cell_state c r n es) (targets r n) o given word s.among)
@@ -81,31 +81,31 @@ module _ (c : Cluster) (es : List Event) where
         let m : MustBeGiven r given (cell_state c r n es) (targets r n) = given_anew r (cell_state c r n es) (targets r n) o given word s.among in
         gives_with r n given low within s.free (holds_is targets r given n ∙ m.wanted) (λ permitted. started_anew r n given permitted m.not_kept)
 
-    first_start : (r n : ℕ) → NeededBeforeMigration c es targets (Operation op.Start r n 0 role.Started) → MayGiveRole c es targets r n role.Started
+    first_start : (r n : ℕ) → NeededBeforeMigration c es targets (Operation op.Start r n 0 role.Started) → CanBeGivenRole c es targets r n role.Started
     first_start r n (step _ _ _ low within gets) = gives r n op.Start role.Started low within started gets
 
-    first_promote : (r n : ℕ) → NeededBeforeMigration c es targets (Operation op.Promote r n 0 role.Started) → MayGiveRole c es targets r n role.Promoted
+    first_promote : (r n : ℕ) → NeededBeforeMigration c es targets (Operation op.Promote r n 0 role.Started) → CanBeGivenRole c es targets r n role.Promoted
     first_promote r n (step _ _ _ low within gets) = gives r n op.Promote role.Promoted low within promoted gets
 
-    pub needed_start : (r n : ℕ) → Needed c es targets (Operation op.Start r n 0 role.Started) → MayGiveRole c es targets r n role.Started
+    pub needed_start : (r n : ℕ) → Needed c es targets (Operation op.Start r n 0 role.Started) → CanBeGivenRole c es targets r n role.Started
     needed_start r n (kept _ first unless) = first_start r n first
 
-    pub needed_promote : (r n : ℕ) → Needed c es targets (Operation op.Promote r n 0 role.Started) → MayGiveRole c es targets r n role.Promoted
+    pub needed_promote : (r n : ℕ) → Needed c es targets (Operation op.Promote r n 0 role.Started) → CanBeGivenRole c es targets r n role.Promoted
     needed_promote r n (kept _ first unless) = first_promote r n first
 
-    pub needed_migration : (r n m : ℕ) → Migrates c es targets r n m → MayGiveRole c es targets r m role.Started
+    pub needed_migration : (r n m : ℕ) → Migrates c es targets r n m → CanBeGivenRole c es targets r m role.Started
     needed_migration r n m migrates = first_start r m migrates.started
 
     no_first_sending : (r n m : ℕ) → NeededBeforeMigration c es targets (MigrateTo r n m) → ⊥
     no_first_sending r n m h = elim h [ ]
 
-    pub needed_sending : (r n m : ℕ) → Needed c es targets (MigrateTo r n m) → MayGiveRole c es targets r m role.Started
+    pub needed_sending : (r n m : ℕ) → Needed c es targets (MigrateTo r n m) → CanBeGivenRole c es targets r m role.Started
     needed_sending r n m (sent _ _ _ migrates) = needed_migration r n m migrates
     needed_sending r n m (kept _ first unless) = absurd (no_first_sending r n m first)
 
     no_first_taking_in : (r n m : ℕ) → NeededBeforeMigration c es targets (MigrateFrom r n m) → ⊥
     no_first_taking_in r n m h = elim h [ ]
 
-    pub needed_taking_in : (r n m : ℕ) → Needed c es targets (MigrateFrom r n m) → MayGiveRole c es targets r m role.Started
+    pub needed_taking_in : (r n m : ℕ) → Needed c es targets (MigrateFrom r n m) → CanBeGivenRole c es targets r m role.Started
     needed_taking_in r n m (taken_in _ _ _ migrates) = needed_migration r n m migrates
     needed_taking_in r n m (kept _ first unless) = absurd (no_first_taking_in r n m first)

@@ -26,7 +26,7 @@ use Rattle.cluster_types.specs.Plans.{IsPlaced}
 use Rattle.cluster_types.specs.Rights.{may_start}
 use Rattle.cluster_types.specs.Tables.{Targets, holds_role, is_somewhere, targets_of}
 use Rattle.cluster_types.specs.Valid.{IsValid}
-use Rattle.plan_laws.specs.Placing.{NoneFits}
+use Rattle.plan_laws.specs.Placing.{NoNodeFits}
 use Rattle.plan_laws.proofs.FewChosen.{FirstCandidate, first_candidate}
 use Rattle.plan_laws.proofs.Following.{Follow, First, first_of_rest, follow_later, follow_of}
 use Rattle.plan_laws.proofs.MadeOnes.{is_placed}
@@ -157,12 +157,12 @@ module _ (c : Cluster) (es : List Event) (ps : List Promotion) where
         false_from_ne_true (is_candidate c es ps at (Place r) n)
         (λ fits. never_chosen (some_chosen at (Place r) n within fits (some_cap c es table r m)))
 
-    pub no_node_fits : NoneFits c es ps ds r
+    pub no_node_fits : NoNodeFits c es ps ds r
     no_node_fits = record { before = s.before; later = s.later; split = s.split; none = none_there }
 
   -- the reason in a placement
   pub reason_no_node : (placed : Placed) (is : IsPlaced c es ps placed) (r : ℕ) → IsValid c → slice_get placed.none r ≡ Some (Some none.NoNode)
-      → NoneFits c es ps is.decisions r
+      → NoNodeFits c es ps is.decisions r
   reason_no_node placed is r valid reason =
       let told : HasReason c es (after_decisions c es ps (pinned_targets c es) is.decisions) (targets_of placed.table) r (Some none.NoNode)
       = is.reasons r (Some none.NoNode) reason in

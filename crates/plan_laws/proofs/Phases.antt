@@ -6,7 +6,7 @@ use Rattle.cluster_types.specs.declared.journal.Action.{Action}
 use Rattle.cluster_types.specs.declared.journal.Action.TheVariants.{MigrateTo}
 use Rattle.cluster_types.specs.declared.leaf.Op.{Op}
 use Rattle.cluster_types.specs.declared.leaf.Op.TheVariants as op
-use Rattle.cluster_types.specs.Numbers.{Place, is_place_before, is_earlier, is_within_phase, link, place, action_place, rank, step_of}
+use Rattle.cluster_types.specs.Numbers.{ActionPlace, is_place_before, is_earlier, is_within_phase, link, place, action_place, rank, step_of}
 use Rattle.cluster_types.specs.Precedence.{is_migrating, is_giving, sends}
 use Rattle.plan_laws.proofs.Roles.{GivesTo, gives_start, gives_sent, gives_promote, TakesFrom, asks, takes_stop, takes_demote}
 use Rattle.plan_laws.proofs.Words.{Earlier, first_start, first_taken_in, first_stop, first_promote, first_demote, Later, then_start, then_sent_to, then_sent_off, then_stop, then_promote, then_demote}
@@ -34,7 +34,7 @@ module _ (c : Cluster) (actions : List Action) where
   never_falls p q r s w h k = let e = w.rising h in absurd (let f : true ≡ false = cc in cc)
 
   -- where a stop stands
-  abbrev pub stop_place : ℕ → ℕ → Bool → Place
+  abbrev pub stop_place : ℕ → ℕ → Bool → ActionPlace
   stop_place r n b = if b then place 5 0 r n 0 else place 2 (rank c (step_of op.Stop r)) r n 0
 
   -- a stop as the earlier: its leaf doesn't migrate

@@ -5,7 +5,7 @@ use Rattle.cluster_types.specs.declared.journal.Action.TheVariants.{Fence, Probe
 use Rattle.cluster_types.specs.declared.leaf.Op.TheVariants as op
 use Rattle.cluster_types.specs.declared.leaf.Role.{Role}
 use Rattle.cluster_types.specs.declared.leaf.Role.TheVariants as role
-use Rattle.cluster_types.specs.Precedence.{CellOf, gives_any, gives_role, probe_cell, start_cell, takes_or_probes}
+use Rattle.cluster_types.specs.Precedence.{LeafOnNode, gives_any, gives_role, probe_cell, start_cell, takes_or_probes}
 use Rattle.plan_laws.proofs.Words.{OfCell, of_cell, cell_there, leaf_is}
 
 -- what gives a role
@@ -20,18 +20,18 @@ gives_by_start _ _ _ (of_cell r n i role) = gives_start r n i role
 gives_by_promote : (x : Action) (r n : ℕ) → OfCell op.Promote x r n → GivesTo x r
 gives_by_promote _ _ _ (of_cell r n i role) = gives_promote r n i role
 
-pub given_start : (y : Action) (a : CellOf) → start_cell y ≡ Some a → GivesTo y a.leaf
+pub given_start : (y : Action) (a : LeafOnNode) → start_cell y ≡ Some a → GivesTo y a.leaf
 given_start (Fence n) a h = cc
 given_start (Probe r n) a h = cc
 given_start (Operation o r n i role) a h = gives_by_start _ _ _ (cell_there op.Start (Operation o r n i role) a h)
 given_start (MigrateTo r s t) a h = subst (GivesTo (MigrateTo r s t)) (leaf_is r t a h) (gives_sent r s t)
 given_start (MigrateFrom r s t) a h = cc
 
-pub given : (role : Role) (y : Action) (a : CellOf) → gives_role role y ≡ Some a → GivesTo y a.leaf
+pub given : (role : Role) (y : Action) (a : LeafOnNode) → gives_role role y ≡ Some a → GivesTo y a.leaf
 given role.Started y a h = given_start y a h
 given role.Promoted y a h = gives_by_promote _ _ _ (cell_there op.Promote y a h)
 
-pub given_any : (y : Action) (a : CellOf) → gives_any y ≡ Some a → GivesTo y a.leaf
+pub given_any : (y : Action) (a : LeafOnNode) → gives_any y ≡ Some a → GivesTo y a.leaf
 given_any (Fence n) a h = cc
 given_any (Probe r n) a h = cc
 given_any (Operation op.Start r n i role) a h = given_start (Operation op.Start r n i role) a h
@@ -51,7 +51,7 @@ pub data TakesFrom : Action → ℕ → Type 0 where
 takes_by_stop : (x : Action) (r n : ℕ) → OfCell op.Stop x r n → TakesFrom x r
 takes_by_stop _ _ _ (of_cell r n i role) = takes_stop r n i role
 
-pub taken : (role : Role) (x : Action) (a : CellOf) → takes_or_probes role x ≡ Some a → TakesFrom x a.leaf
+pub taken : (role : Role) (x : Action) (a : LeafOnNode) → takes_or_probes role x ≡ Some a → TakesFrom x a.leaf
 taken role.Started (Probe r n) a h = subst (TakesFrom (Probe r n)) (leaf_is r n a h) (asks r n)
 taken role.Started (Fence n) a h = cc
 taken role.Started (Operation o r n i role) a h = takes_by_stop _ _ _ (cell_there op.Stop (Operation o r n i role) a h)
@@ -67,7 +67,7 @@ taken role.Promoted (Operation op.Monitor r n i role) a h = cc
 taken role.Promoted (MigrateTo r s t) a h = cc
 taken role.Promoted (MigrateFrom r s t) a h = cc
 
-pub probed : (x : Action) (a : CellOf) → probe_cell x ≡ Some a → TakesFrom x a.leaf
+pub probed : (x : Action) (a : LeafOnNode) → probe_cell x ≡ Some a → TakesFrom x a.leaf
 probed (Probe r n) a h = subst (TakesFrom (Probe r n)) (leaf_is r n a h) (asks r n)
 probed (Fence n) a h = cc
 probed (Operation o r n i role) a h = cc

@@ -16,7 +16,7 @@ use Rattle.cluster_types.specs.declared.placement.Target.TheVariants as target
 use Rattle.cluster_types.specs.Choice.{is_stopped_role}
 use Rattle.cluster_types.specs.Failures.{is_fail_stopped}
 use Rattle.cluster_types.specs.Fields.{copies, target_role_of}
-use Rattle.cluster_types.specs.Held.{AreTargets, Held, KeepsTarget}
+use Rattle.cluster_types.specs.Held.{AreTargets, Held, IsFinalTarget}
 use Rattle.cluster_types.specs.Pins.{is_pinned}
 use Rattle.cluster_types.specs.Reasons.{HasReason, is_chosen_nowhere, plain_reason}
 use Rattle.cluster_types.specs.Rights.{may_start}
@@ -90,7 +90,7 @@ module _ (c : Cluster) (es : List Event) (table targets : Targets) (are : AreTar
     held_at : (n : ℕ) → n < length c.nodes → is_somewhere (table r n) ≡ true → Held c es table (Place r) n
     held_at n within chosen = go (targets r n) (is_nowhere (targets r n) (nowhere n within)) (are r n low within)
       where
-        go : (t : Target) → t ≡ target.Nowhere → KeepsTarget c es table r n t → Held c es table (Place r) n
+        go : (t : Target) → t ≡ target.Nowhere → IsFinalTarget c es table r n t → Held c es table (Place r) n
         go target.Nowhere e kept = kept chosen
         go target.Started e kept = cc
         go target.Promoted e kept = cc

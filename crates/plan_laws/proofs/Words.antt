@@ -6,18 +6,18 @@ use Rattle.cluster_types.specs.declared.journal.Action.TheVariants.{Fence, Probe
 use Rattle.cluster_types.specs.declared.leaf.Op.{Op}
 use Rattle.cluster_types.specs.declared.leaf.Op.TheVariants as op
 use Rattle.cluster_types.specs.declared.leaf.Role.{Role}
-use Rattle.cluster_types.specs.Precedence.{CellOf, as_earlier, as_later, both, cell_of, is_migrating, is_same_op, op_cell}
+use Rattle.cluster_types.specs.Precedence.{LeafOnNode, as_earlier, as_later, both, cell_of, is_migrating, is_same_op, op_cell}
 use Rattle.plan_laws.proofs.NeededActions.{is_monitor}
 
 -- both actions have a cell, and the cells pass the test
-pub record Both (test : CellOf → CellOf → Bool) (u v : Option CellOf) : Type 0 where
-  pub one : CellOf
-  pub other : CellOf
+pub record Both (test : LeafOnNode → LeafOnNode → Bool) (u v : Option LeafOnNode) : Type 0 where
+  pub one : LeafOnNode
+  pub other : LeafOnNode
   pub is_one : u ≡ Some one
   pub is_other : v ≡ Some other
   pub passes : test one other ≡ true
 
-pub both_there : (test : CellOf → CellOf → Bool) (u v : Option CellOf) → both test u v ≡ true → Both test u v
+pub both_there : (test : LeafOnNode → LeafOnNode → Bool) (u v : Option LeafOnNode) → both test u v ≡ true → Both test u v
 both_there test (Some a) (Some b) h = record { one = a; other = b; is_one = refl; is_other = refl; passes = h }
 both_there test (Some a) None h = cc
 both_there test None (Some b) h = cc
@@ -27,13 +27,13 @@ both_there test None None h = cc
 pub data OfCell (o : Op) : Action → ℕ → ℕ → Type 0 where
   of_cell : (r n i : ℕ) (role : Role) → OfCell o (Operation o r n i role) r n
 
-pub leaf_is : (r n : ℕ) (a : CellOf) → cell_of r n ≡ Some a → r ≡ a.leaf
-leaf_is r n a h = let e : record { leaf = r; node = n } ≡ a = cc in ap (λ (v : CellOf). v.leaf) e
+pub leaf_is : (r n : ℕ) (a : LeafOnNode) → cell_of r n ≡ Some a → r ≡ a.leaf
+leaf_is r n a h = let e : record { leaf = r; node = n } ≡ a = cc in ap (λ (v : LeafOnNode). v.leaf) e
 
-node_is : (r n : ℕ) (a : CellOf) → cell_of r n ≡ Some a → n ≡ a.node
-node_is r n a h = let e : record { leaf = r; node = n } ≡ a = cc in ap (λ (v : CellOf). v.node) e
+node_is : (r n : ℕ) (a : LeafOnNode) → cell_of r n ≡ Some a → n ≡ a.node
+node_is r n a h = let e : record { leaf = r; node = n } ≡ a = cc in ap (λ (v : LeafOnNode). v.node) e
 
-cell_on : (o p : Op) (r n i : ℕ) (role : Role) (a : CellOf) (b : Bool) → is_same_op o p ≡ b → (if b then cell_of r n else None) ≡ Some a
+cell_on : (o p : Op) (r n i : ℕ) (role : Role) (a : LeafOnNode) (b : Bool) → is_same_op o p ≡ b → (if b then cell_of r n else None) ≡ Some a
     → OfCell o (Operation p r n i role) a.leaf a.node
 cell_on o p r n i role a true e h =
     let word : o ≡ p = same_op o p e in
@@ -43,7 +43,7 @@ cell_on o p r n i role a true e h =
     (subst (λ v. OfCell o (Operation o r n i role) r v) node (of_cell r n i role)))
 cell_on o p r n i role a false e h = cc
 
-pub cell_there : (o : Op) (x : Action) (a : CellOf) → op_cell o x ≡ Some a → OfCell o x a.leaf a.node
+pub cell_there : (o : Op) (x : Action) (a : LeafOnNode) → op_cell o x ≡ Some a → OfCell o x a.leaf a.node
 cell_there o (Fence n) a h = cc
 cell_there o (Probe r n) a h = cc
 cell_there o (Operation p r n i role) a h = cell_on o p r n i role a (is_same_op o p) refl h
@@ -65,7 +65,7 @@ earlier_by_cell op.Promote _ _ _ e (of_cell r n i role) = first_promote r n i ro
 earlier_by_cell op.Demote _ _ _ e (of_cell r n i role) = first_demote r n i role
 earlier_by_cell op.Monitor _ _ _ e (of_cell r n i role) = cc
 
-pub earlier : (p : Op) (x : Action) (a : CellOf) → is_monitor p ≡ false → as_earlier p x ≡ Some a → Earlier p x a.leaf
+pub earlier : (p : Op) (x : Action) (a : LeafOnNode) → is_monitor p ≡ false → as_earlier p x ≡ Some a → Earlier p x a.leaf
 earlier op.Start (MigrateFrom r s t) a e h = subst (Earlier op.Start (MigrateFrom r s t)) (leaf_is r t a h) (first_taken_in r s t)
 earlier op.Start (Fence n) a e h = cc
 earlier op.Start (Probe r n) a e h = cc
@@ -95,12 +95,12 @@ module _ (actions : List Action) where
   demote_by_cell : (x : Action) (r n : ℕ) → OfCell op.Demote x r n → Later actions op.Demote x r
   demote_by_cell _ _ _ (of_cell r n i role) = then_demote r n i role
 
-  stop_on : (r n i : ℕ) (role : Role) (a : CellOf) (b : Bool) → is_migrating actions r ≡ b → (if b then None else cell_of r n) ≡ Some a
+  stop_on : (r n i : ℕ) (role : Role) (a : LeafOnNode) (b : Bool) → is_migrating actions r ≡ b → (if b then None else cell_of r n) ≡ Some a
       → Later actions op.Stop (Operation op.Stop r n i role) a.leaf
   stop_on r n i role a true e h = cc
   stop_on r n i role a false e h = subst (Later actions op.Stop (Operation op.Stop r n i role)) (leaf_is r n a h) (then_stop r n i role e)
 
-  pub later : (q : Op) (y : Action) (b : CellOf) → is_monitor q ≡ false → as_later actions q y ≡ Some b → Later actions q y b.leaf
+  pub later : (q : Op) (y : Action) (b : LeafOnNode) → is_monitor q ≡ false → as_later actions q y ≡ Some b → Later actions q y b.leaf
   later op.Start (Fence n) b e h = cc
   later op.Start (Probe r n) b e h = cc
   later op.Start (Operation o r n i role) b e h = start_by_cell _ _ _ (cell_there op.Start (Operation o r n i role) b h)

@@ -15,7 +15,7 @@ use Rattle.cluster_types.specs.declared.leaf.Op.TheVariants as op
 use Rattle.cluster_types.specs.declared.leaf.Role.TheVariants as role
 use Rattle.cluster_types.specs.CellStates.{cell_state, is_monitor_running}
 use Rattle.cluster_types.specs.Fields.{monitors}
-use Rattle.cluster_types.specs.NeededActions.{NeededBeforeMigration, GetsAny, GetsStep, GetsStepAnywhere, Migrates, Needed, NeedsMonitor, fence, is_monitor_for, kept, monitor, probe, sent, step, steps_of, taken_in}
+use Rattle.cluster_types.specs.NeededActions.{NeededBeforeMigration, GetsAnyStep, GetsStep, GetsStepAnywhere, Migrates, Needed, NeedsMonitor, fence, is_monitor_for, kept, monitor, probe, sent, step, steps_of, taken_in}
 use Rattle.cluster_types.specs.Pins.{is_pinned, is_unprobed_state}
 use Rattle.cluster_types.specs.Precedence.{is_same_op}
 use Rattle.cluster_types.specs.Rights.{is_to_be_fenced}
@@ -143,7 +143,7 @@ module _ (c : Cluster) (es : List Event) (targets : Targets) where
     watch_of r n m lr ln h =
         let u = of_unless (is_pinned c es r) _ m (subst (λ (ms : List MonitorOf). Contains ms m) (watched_by r n lr ln) h) in
         let f = of_filter (needs_it (targets r n) (is_filled (steps_in need marked r n)) (runs c es r n)) (monitors c r) m u.among in
-        let why : (is_monitor_running r n m.interval_ms es ≡ false) ⊎ GetsAny c es targets r n
+        let why : (is_monitor_running r n m.interval_ms es ≡ false) ⊎ GetsAnyStep c es targets r n
         = elim (waits (is_filled (steps_in need marked r n)) (is_monitor_running r n m.interval_ms es)
         (later (is_monitor_for m.role (targets r n)) _ f.passes)) [
           | inl e ↦ inl e

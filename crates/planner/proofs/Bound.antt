@@ -11,7 +11,7 @@ use Rattle.cluster_types.specs.declared.rules.Colocation.{Colocation}
 use Rattle.cluster_types.specs.declared.rules.Order.{Order}
 use Rattle.cluster_types.specs.Choice.{is_separation}
 use Rattle.cluster_types.specs.Plans.{is_of_either}
-use Rattle.cluster_types.specs.Precedence.{CellOf, inverse, is_serialize, is_giving}
+use Rattle.cluster_types.specs.Precedence.{LeafOnNode, inverse, is_serialize, is_giving}
 use Rattle.planner.specs.declared.precedence.sides.Join.{Join}
 use Rattle.planner.specs.declared.precedence.sides.Side.TheVariants as side
 use Rattle.planner.specs.Inner.Gates.{chain_edges, chain_step, edge, edge_in, edge_out, gate_edges_at, edges_of_joins, gates_upto, join_edges, key_at, next_gate, then_step}
@@ -22,16 +22,16 @@ use Rattle.planner.specs.Inner.Rooms.{rows_of_join, width_of_join}
 use Rattle.planner.proofs.BuildsMore.{edges-append, few_edges}
 use Rattle.planner.proofs.Counts.{rule_few, rule_few_swapped}
 
-in_one : (base width i : ℕ) (u : Option CellOf) → length (edge_in base width u i) ≤ 1
+in_one : (base width i : ℕ) (u : Option LeafOnNode) → length (edge_in base width u i) ≤ 1
 in_one base width i (Some a) = omega arith
 in_one base width i None = omega arith
 
-out_one : (base width i : ℕ) (u : Option CellOf) → length (edge_out base width u i) ≤ 1
+out_one : (base width i : ℕ) (u : Option LeafOnNode) → length (edge_out base width u i) ≤ 1
 out_one base width i (Some a) = omega arith
 out_one base width i None = omega arith
 
 -- a join has two edges a position at most
-pub join_few : (base width : ℕ) (from to : ℕ → Option CellOf) (places : List ℕ) → length (join_edges base width from to places) ≤ 2 * length places
+pub join_few : (base width : ℕ) (from to : ℕ → Option LeafOnNode) (places : List ℕ) → length (join_edges base width from to places) ≤ 2 * length places
 join_few base width from to [] = omega arith
 join_few base width from to (i ∷ is) =
     let e = ap length (flat_map-cons (gate_edges_at base width from to) i is) in

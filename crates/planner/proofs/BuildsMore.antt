@@ -9,7 +9,7 @@ use Rattle.std.proofs.lemmas.List.FromFn.{length-range_with_len}
 use Rattle.cluster_types.specs.declared.cluster.Cluster.{Cluster}
 use Rattle.edges.specs.declared.edge.Edge.{Edge}
 use Rattle.cluster_types.specs.declared.journal.Action.{Action}
-use Rattle.cluster_types.specs.Precedence.{CellOf}
+use Rattle.cluster_types.specs.Precedence.{LeafOnNode}
 use Rattle.planner.specs.declared.precedence.sides.Join.{Join}
 use Rattle.planner.specs.Inner.Gates.{edge_in, edge_out, gate_edges_at, edges_of_joins, gates_upto, join_edges, key_at}
 use Rattle.planner.specs.Joins.{first_joins, side_key_of}
@@ -85,15 +85,15 @@ module _ (c : Cluster) (actions : List Action) (leaves width : Join → ℕ) whe
   abbrev stands_at : List Join → ℕ → ℕ
   stands_at js i = sum_by (λ (j : Join). one_if c actions (key_at c actions j.from i) + one_if c actions (key_at c actions j.to i)) js
 
-  in_length : (base width i : ℕ) (u : Option CellOf) → length (edge_in base width u i) ≡ one_if c actions u
+  in_length : (base width i : ℕ) (u : Option LeafOnNode) → length (edge_in base width u i) ≡ one_if c actions u
   in_length base width i (Some a) = refl
   in_length base width i None = refl
 
-  out_length : (base width i : ℕ) (u : Option CellOf) → length (edge_out base width u i) ≡ one_if c actions u
+  out_length : (base width i : ℕ) (u : Option LeafOnNode) → length (edge_out base width u i) ≡ one_if c actions u
   out_length base width i (Some a) = refl
   out_length base width i None = refl
 
-  at_length : (base width : ℕ) (from to : ℕ → Option CellOf) (i : ℕ) → length (gate_edges_at base width from to i) ≡ one_if c actions (from i) + one_if c actions (to i)
+  at_length : (base width : ℕ) (from to : ℕ → Option LeafOnNode) (i : ℕ) → length (gate_edges_at base width from to i) ≡ one_if c actions (from i) + one_if c actions (to i)
   at_length base width from to i =
       let a = in_length base width i (from i) in
       let b = out_length base width i (to i) in

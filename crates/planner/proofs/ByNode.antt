@@ -4,7 +4,7 @@ use Rattle.std.specs.List.{slice_get}
 use Rattle.std.specs.Option.{option_map_or}
 use Rattle.std.proofs.lemmas.Bool.{eqb-true}
 use Rattle.cluster_types.specs.declared.journal.Action.{Action}
-use Rattle.cluster_types.specs.Precedence.{CellOf, cell_of, change_cell}
+use Rattle.cluster_types.specs.Precedence.{LeafOnNode, cell_of, change_cell}
 use Rattle.planner.specs.Chains.{changes_at, is_cell_on, InChain, StandsBefore, here, later}
 use Rattle.planner.specs.Inner.Chains.{changed_node, is_at, changed_node_at}
 use Rattle.planner.specs.Joins.{in_leaf}
@@ -50,7 +50,7 @@ module _ (p : ℕ → Bool) (x y : ℕ) where
       record { first = h.first; then_is = h.then_is; before = stands_in_some places (u x h.first) (v y h.then_is) h.before }
 
 -- what changes a cell of the leaf on a node is at the node
-changes_on : (r m : ℕ) (u : Option CellOf) → is_cell_on m (in_leaf r true u) ≡ true → is_at m (changed_node u) ≡ true
+changes_on : (r m : ℕ) (u : Option LeafOnNode) → is_cell_on m (in_leaf r true u) ≡ true → is_at m (changed_node u) ≡ true
 changes_on r m (Some a) h = on (a.leaf == r) h
   where
     on : (b : Bool) → is_cell_on m (if b then cell_of 0 a.node else None) ≡ true → (a.node == m) ≡ true
@@ -67,7 +67,7 @@ changes_node actions r m i h = on (slice_get actions i) h
     on None e = cc
 
 -- chains for all nodes are for node 0
-zero_on : (r m : ℕ) (u : Option CellOf) → is_cell_on m (in_leaf r false u) ≡ true → m ≡ 0
+zero_on : (r m : ℕ) (u : Option LeafOnNode) → is_cell_on m (in_leaf r false u) ≡ true → m ≡ 0
 zero_on r m (Some a) h = on (a.leaf == r) h
   where
     on : (b : Bool) → is_cell_on m (if b then cell_of 0 0 else None) ≡ true → m ≡ 0

@@ -8,10 +8,10 @@ use Rattle.cluster_types.specs.declared.journal.Action.{Action}
 use Rattle.cluster_types.specs.declared.journal.Action.TheVariants.{Fence, Probe, Operation, MigrateTo, MigrateFrom}
 use Rattle.cluster_types.specs.declared.leaf.Op.TheVariants as op
 use Rattle.cluster_types.specs.Fields.{copies}
-use Rattle.cluster_types.specs.Precedence.{CellOf, both, cell_of, comes_first_in_cell, fences_first, gives_any, is_one_cell, is_one_leaf, is_some_cell, migrates_first, op_cell}
+use Rattle.cluster_types.specs.Precedence.{LeafOnNode, both, cell_of, comes_first_in_cell, fences_first, gives_any, is_one_cell, is_one_leaf, is_some_cell, migrates_first, op_cell}
 use Rattle.planner.specs.Joins.{alone, before_monitor, before_stop, by_leaf, fence_cell, send_cell, take_cell, take_in_cell, same_join_cell}
 
-pub one_leaf_joined : (u v : Option CellOf) → both is_one_leaf u v ≡ both is_one_cell (by_leaf u) (by_leaf v)
+pub one_leaf_joined : (u v : Option LeafOnNode) → both is_one_leaf u v ≡ both is_one_cell (by_leaf u) (by_leaf v)
 one_leaf_joined (Some a) (Some b) = sym (and-true (a.leaf == b.leaf))
 one_leaf_joined (Some a) None = refl
 one_leaf_joined None v = refl
@@ -30,7 +30,7 @@ alone_on c r s n m true false e f =
     let g : nat_lt (copies c s) (length c.nodes) ≡ false = subst (λ v. nat_lt (copies c v) (length c.nodes) ≡ false) leaf f in
     rw f (rw g (or-false (n == m)))
 
-pub alone_joined : (c : Cluster) (u v : Option CellOf)
+pub alone_joined : (c : Cluster) (u v : Option LeafOnNode)
     → both (λ a b. is_one_leaf a b && (a.node == b.node || nat_lt (copies c a.leaf) (length c.nodes))) u v ≡ both is_one_cell (alone c u) (alone c v)
 alone_joined c (Some a) (Some b) = alone_on c a.leaf b.leaf a.node b.node (a.leaf == b.leaf) (nat_lt (copies c a.leaf) (length c.nodes)) refl refl
 alone_joined c (Some a) None = refl
@@ -39,7 +39,7 @@ alone_joined c None v = refl
 pub fences_joined : (x y : Action) → fences_first x y ≡ both is_one_cell (fence_cell x) (same_join_cell (gives_any y))
 fences_joined (Fence n) y = on (gives_any y)
   where
-    on : (v : Option CellOf) → is_some_cell v ≡ both is_one_cell (cell_of 0 0) (same_join_cell v)
+    on : (v : Option LeafOnNode) → is_some_cell v ≡ both is_one_cell (cell_of 0 0) (same_join_cell v)
     on (Some a) = refl
     on None = refl
 fences_joined (Probe r n) y = refl
@@ -48,7 +48,7 @@ fences_joined (MigrateTo r s t) y = refl
 fences_joined (MigrateFrom r s t) y = refl
 
 -- two sources of one side
-pub taken_joined : (x : Action) (v : Option CellOf) → (both is_one_leaf (op_cell op.Demote x) v || both is_one_leaf (op_cell op.Stop x) v) ≡ both is_one_leaf (take_cell x) v
+pub taken_joined : (x : Action) (v : Option LeafOnNode) → (both is_one_leaf (op_cell op.Demote x) v || both is_one_leaf (op_cell op.Stop x) v) ≡ both is_one_leaf (take_cell x) v
 taken_joined (Fence n) v = refl
 taken_joined (Probe r n) v = refl
 taken_joined (Operation op.Start r n i role) v = refl

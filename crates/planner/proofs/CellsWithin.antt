@@ -6,16 +6,16 @@ use Rattle.cluster_types.specs.declared.journal.Action.TheVariants.{Fence, Probe
 use Rattle.cluster_types.specs.declared.leaf.Op.{Op}
 use Rattle.cluster_types.specs.declared.leaf.Op.TheVariants as op
 use Rattle.cluster_types.specs.Fields.{copies}
-use Rattle.cluster_types.specs.Precedence.{CellOf, cell_of, change_cell, gives_any, is_same_op, op_cell, probe_cell, start_cell}
+use Rattle.cluster_types.specs.Precedence.{LeafOnNode, cell_of, change_cell, gives_any, is_same_op, op_cell, probe_cell, start_cell}
 use Rattle.planner.specs.Joins.{alone, before_monitor, before_stop, by_leaf, fence_cell, in_leaf, send_cell, take_cell, take_in_cell, same_join_cell}
 use Rattle.planner.specs.Inner.Rooms.{nodes_if}
 use Rattle.planner.specs.ActionNames.{IsActionWithin}
 
 module _ (c : Cluster) where
-  abbrev pub In : ℕ → ℕ → Option CellOf → Type 0
+  abbrev pub In : ℕ → ℕ → Option LeafOnNode → Type 0
   In rows width u = IfSome u (λ k. (k.leaf < rows) × (k.node < width))
 
-  abbrev pub Here : Option CellOf → Type 0
+  abbrev pub Here : Option LeafOnNode → Type 0
   Here u = In (length c.leaves) (length c.nodes) u
 
   pub op_here : (o : Op) (a : Action) → IsActionWithin c a → Here (op_cell o a)
@@ -90,15 +90,15 @@ module _ (c : Cluster) where
   take_here (MigrateTo r s t) h = tt
   take_here (MigrateFrom r s t) h = tt
 
-  pub by_leaf_in : (u : Option CellOf) → Here u → In (length c.leaves) 1 (by_leaf u)
+  pub by_leaf_in : (u : Option LeafOnNode) → Here u → In (length c.leaves) 1 (by_leaf u)
   by_leaf_in (Some a) h = (h.0, omega arith)
   by_leaf_in None h = tt
 
-  pub together_in : (u : Option CellOf) → In 1 1 (same_join_cell u)
+  pub together_in : (u : Option LeafOnNode) → In 1 1 (same_join_cell u)
   together_in (Some a) = (omega arith, omega arith)
   together_in None = tt
 
-  pub alone_in : (u : Option CellOf) → Here u → Here (alone c u)
+  pub alone_in : (u : Option LeafOnNode) → Here u → Here (alone c u)
   alone_in (Some a) h = (h.0, on (nat_lt (copies c a.leaf) (length c.nodes)))
     where
       on : (b : Bool) → (if b then 0 else a.node) < length c.nodes
@@ -106,7 +106,7 @@ module _ (c : Cluster) where
       on false = h.1
   alone_in None h = tt
 
-  pub in_leaf_in : (r : ℕ) (by_node : Bool) (u : Option CellOf) → Here u → In 1 (nodes_if c by_node) (in_leaf r by_node u)
+  pub in_leaf_in : (r : ℕ) (by_node : Bool) (u : Option LeafOnNode) → Here u → In 1 (nodes_if c by_node) (in_leaf r by_node u)
   in_leaf_in r by_node (Some a) h = on (a.leaf == r) by_node
     where
       on : (b d : Bool) → In 1 (nodes_if c d) (if b then cell_of 0 (if d then a.node else 0) else None)

@@ -9,7 +9,7 @@ use Rattle.std.proofs.lemmas.List.Sums.{sum_by-cons}
 use Rattle.edges.specs.declared.edge.Edge.{Edge}
 use Rattle.cluster_types.specs.declared.journal.Action.{Action}
 use Rattle.cluster_types.specs.declared.rules.Order.{Order}
-use Rattle.cluster_types.specs.Precedence.{CellOf, cell_of, change_cell}
+use Rattle.cluster_types.specs.Precedence.{LeafOnNode, cell_of, change_cell}
 use Rattle.planner.specs.Chains.{IsChained, changes_at, is_cell_on, InChain}
 use Rattle.planner.specs.Inner.Gates.{chain_edges, last_gate}
 use Rattle.planner.specs.Inner.Groups.{AddsGroup, IsGroup}
@@ -19,7 +19,7 @@ use Rattle.planner.proofs.ChainGroups.{chain_group}
 use Rattle.planner.proofs.Groups.{group_after, group_says}
 
 -- an action changes cells of one leaf alone
-apart_on : (r s : ℕ) (local : Bool) (m : ℕ) (u : Option CellOf) → (r == s) ≡ false → is_cell_on m (in_leaf r local u) ≡ true → is_cell_on m (in_leaf s local u) ≡ true → ⊥
+apart_on : (r s : ℕ) (local : Bool) (m : ℕ) (u : Option LeafOnNode) → (r == s) ≡ false → is_cell_on m (in_leaf r local u) ≡ true → is_cell_on m (in_leaf s local u) ≡ true → ⊥
 apart_on r s local m (Some a) d h k = on (a.leaf == r) (a.leaf == s) refl refl h k
   where
     on : (p q : Bool) → (a.leaf == r) ≡ p → (a.leaf == s) ≡ q → is_cell_on m (if p then cell_of 0 (if local then a.node else 0) else None) ≡ true

@@ -29,7 +29,7 @@ use Rattle.planner.specs.ActionNames.{IsActionWithin}
 use Rattle.planner.proofs.Counts.{both_counts}
 use Rattle.planner.proofs.NeededWithin.{needed_within}
 use Rattle.plan_laws.proofs.CellSteps.{is_step}
-use Rattle.planner.specs.PlannedActions.{ArePlanned}
+use Rattle.planner.specs.PlannedActions.{AreOfSomePlan}
 use Rattle.planner.proofs.ActionKinds.{few_apart, kind, node_of, stands_at}
 use Rattle.planner.proofs.ToldApart.{told_apart}
 
@@ -60,7 +60,7 @@ module _ (f : Action → ℕ) (xs : List Action) (most : ℕ) (below : (x : Acti
       let most_of = length-le_from_distinct_below (map f xs) most (IsDistinct-from_AllPairs {eq = eqb} Decides-eqb (map f xs) values_apart) values_below in
       omega arith
 
-module _ (c : Cluster) (actions : List Action) (valid : IsValid c) (planned : ArePlanned c actions) where
+module _ (c : Cluster) (actions : List Action) (valid : IsValid c) (planned : AreOfSomePlan c actions) where
   abbrev targets : Targets
   targets = targets_of planned.placed.table
 

@@ -6,7 +6,7 @@ use Rattle.std.proofs.lemmas.Bool.{eqb-true}
 use Rattle.std.proofs.lemmas.List.Elements.{Contains-append_cases, Contains-append_left, Contains-append_right}
 use Rattle.cluster_types.specs.declared.cluster.Cluster.{Cluster}
 use Rattle.cluster_types.specs.declared.journal.Action.{Action}
-use Rattle.cluster_types.specs.Precedence.{CellOf}
+use Rattle.cluster_types.specs.Precedence.{LeafOnNode}
 use Rattle.planner.specs.declared.precedence.sides.Join.{Join}
 use Rattle.planner.specs.declared.precedence.sides.Side.{Side}
 use Rattle.planner.specs.Inner.Gates.{key_at}
@@ -61,7 +61,7 @@ module _ (c : Cluster) (actions : List Action) where
       on false e = Contains-append_right (leaf_places actions r) (leaf_places actions s) i h
 
   -- the action at a position at which a side has a cell
-  module _ (s : Side) (i : ℕ) (k : CellOf) (l : i < length actions) (h : key_at c actions s i ≡ Some k) where
+  module _ (s : Side) (i : ℕ) (k : LeafOnNode) (l : i < length actions) (h : key_at c actions s i ≡ Some k) where
     stands_on : (v : Option Action) → slice_get actions i ≡ v → option_map_or (side_key_of c actions s) v None ≡ Some k → (r : ℕ) → side_leaf s ≡ Some r
         → Contains (leaf_places actions r) i
     stands_on (Some a) at h r e = leaf_there r i a l at (of_side actions c a k s r e h)
@@ -71,13 +71,13 @@ module _ (c : Cluster) (actions : List Action) where
     stands_there r e = stands_on (slice_get actions i) refl h r e
 
   module _ (inside : (a : Action) → Contains actions a → IsActionWithin c a) (j : Join) (even : IsEven c j) where
-    from_on : (u v : Option ℕ) → side_leaf j.from ≡ u → side_leaf j.to ≡ v → (i : ℕ) (k : CellOf) → i < length actions → key_at c actions j.from i ≡ Some k
+    from_on : (u v : Option ℕ) → side_leaf j.from ≡ u → side_leaf j.to ≡ v → (i : ℕ) (k : LeafOnNode) → i < length actions → key_at c actions j.from i ≡ Some k
         → Contains (places_by actions u v) i
     from_on (Some r) (Some s) e f i k l h = one_there r s i (stands_there j.from i k l h r e)
     from_on (Some r) None e f i k l h = in_range 0 (length actions) i (omega arith) (omega arith)
     from_on None v e f i k l h = in_range 0 (length actions) i (omega arith) (omega arith)
 
-    to_on : (u v : Option ℕ) → side_leaf j.from ≡ u → side_leaf j.to ≡ v → (i : ℕ) (k : CellOf) → i < length actions → key_at c actions j.to i ≡ Some k
+    to_on : (u v : Option ℕ) → side_leaf j.from ≡ u → side_leaf j.to ≡ v → (i : ℕ) (k : LeafOnNode) → i < length actions → key_at c actions j.to i ≡ Some k
         → Contains (places_by actions u v) i
     to_on (Some r) (Some s) e f i k l h = other_there r s i (stands_there j.to i k l h s f)
     to_on (Some r) None e f i k l h = in_range 0 (length actions) i (omega arith) (omega arith)

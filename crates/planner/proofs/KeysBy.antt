@@ -11,7 +11,7 @@ use Rattle.cluster_types.specs.declared.leaf.Op.{Op}
 use Rattle.cluster_types.specs.declared.leaf.Op.TheVariants as op
 use Rattle.planner.specs.declared.precedence.sides.Side.{Side}
 use Rattle.planner.specs.declared.precedence.sides.Side.TheVariants as side
-use Rattle.cluster_types.specs.Precedence.{CellOf, as_later, is_migrating}
+use Rattle.cluster_types.specs.Precedence.{LeafOnNode, as_later, is_migrating}
 use Rattle.planner.specs.Joins.{in_leaf, side_key_of, later_demote, later_taker}
 use Rattle.planner.specs.Inner.Leaves.{key_by, later_by, later_demote_by, later_stop, later_taker_by, action_leaf}
 
@@ -79,7 +79,7 @@ module _ (actions : List Action) where
   key-by c (side.Earlier r word local) a = refl
   key-by c (side.EarlierTakers r word local) a = refl
 
-pub key_at_is : (c : Cluster) (actions : List Action) (migrating : List Bool) (s : Side) (place : ℕ) (a : Action) (m : Bool) (u : Option CellOf)
+pub key_at_is : (c : Cluster) (actions : List Action) (migrating : List Bool) (s : Side) (place : ℕ) (a : Action) (m : Bool) (u : Option LeafOnNode)
     → slice_get actions place ≡ Some a → AreMigrating actions migrating → m ≡ get_or migrating (action_leaf a) false → u ≡ key_by c m s a
     → u ≡ key_at c actions s place
 key_at_is c actions migrating s place a m u at known is h =

@@ -9,14 +9,14 @@ use Rattle.cluster_types.specs.declared.leaf.Op.{Op}
 use Rattle.cluster_types.specs.declared.leaf.Op.TheVariants as op
 use Rattle.cluster_types.specs.declared.leaf.Role.{Role}
 use Rattle.cluster_types.specs.declared.leaf.Role.TheVariants as role
-use Rattle.cluster_types.specs.Precedence.{CellOf, as_earlier, as_later, cell_of, gives_role, is_migrating, is_same_op, op_cell, start_cell, takes_or_probes}
+use Rattle.cluster_types.specs.Precedence.{LeafOnNode, as_earlier, as_later, cell_of, gives_role, is_migrating, is_same_op, op_cell, start_cell, takes_or_probes}
 use Rattle.planner.specs.declared.precedence.sides.Side.{Side}
 use Rattle.planner.specs.declared.precedence.sides.Side.TheVariants as side
 use Rattle.planner.specs.Joins.{earlier_taker, in_leaf, side_key_of, later_demote, later_taker, take_cell}
 use Rattle.planner.specs.Inner.Places.{is_of_leaf, side_leaf}
 
 -- the cell is of a leaf of which the action is
-abbrev Of : Action → Option CellOf → Type 0
+abbrev Of : Action → Option LeafOnNode → Type 0
 Of a u = IfSome u (λ k. is_of_leaf k.leaf a ≡ true)
 
 op_of : (o : Op) (a : Action) → Of a (op_cell o a)
@@ -128,7 +128,7 @@ module _ (actions : List Action) where
   later_taker_of op.Monitor a = tt
 
   -- what stands on a side by a leaf alone is an action of the leaf
-  in_leaf_of : (r : ℕ) (by_node : Bool) (u : Option CellOf) (a : Action) → Of a u → (k : CellOf) → in_leaf r by_node u ≡ Some k → is_of_leaf r a ≡ true
+  in_leaf_of : (r : ℕ) (by_node : Bool) (u : Option LeafOnNode) (a : Action) → Of a u → (k : LeafOnNode) → in_leaf r by_node u ≡ Some k → is_of_leaf r a ≡ true
   in_leaf_of r by_node (Some b) a h k e = on (b.leaf == r) refl e
     where
       on : (p : Bool) → (b.leaf == r) ≡ p → (if p then cell_of 0 (if by_node then b.node else 0) else None) ≡ Some k → is_of_leaf r a ≡ true
@@ -136,7 +136,7 @@ module _ (actions : List Action) where
       on false q e = cc
   in_leaf_of r by_node None a h k e = cc
 
-  module _ (c : Cluster) (a : Action) (k : CellOf) where
+  module _ (c : Cluster) (a : Action) (k : LeafOnNode) where
     pub of_side : (s : Side) (r : ℕ) → side_leaf s ≡ Some r → side_key_of c actions s a ≡ Some k → is_of_leaf r a ≡ true
     of_side (side.Parts q role) r e h = subst (λ v. is_of_leaf v a ≡ true) (some e) (in_leaf_of q true (takes_or_probes role a) a (parts_of role a) k h)
       where

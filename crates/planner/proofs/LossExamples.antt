@@ -17,7 +17,7 @@ use Rattle.cluster_types.specs.declared.report.Loss.{Loss}
 use Rattle.cluster_types.specs.Choice.{after_decisions}
 use Rattle.cluster_types.specs.Decisions.{Decides, all_made, one_more, decisions, is_among, is_decision, is_made_before, is_ready, needs}
 use Rattle.cluster_types.specs.Each.{implies}
-use Rattle.cluster_types.specs.Held.{Held, KeepsTarget}
+use Rattle.cluster_types.specs.Held.{Held, IsFinalTarget}
 use Rattle.cluster_types.specs.Pins.{pinned_targets}
 use Rattle.cluster_types.specs.Plans.{with_totals}
 use Rattle.cluster_types.specs.Reasons.{HasReason}
@@ -118,7 +118,7 @@ promoted_by_its_score = record {
     decided = refl;
     nodes = refl;
     cells = refl;
-    targets = cells_of_one (λ r n. KeepsTarget replicated lost chosen r n (targets_of placed.table r n))
+    targets = cells_of_one (λ r n. IsFinalTarget replicated lost chosen r n (targets_of placed.table r n))
         (λ h. absurd (is_not h)) (refl, nothing_is_held (Promote 0) 1);
     leaves = refl;
     reasons = λ r reason h. has_its_target reason r h;

@@ -8,10 +8,10 @@ use Rattle.lemmas.proofs.Members.{at_head, head_or_rest, in_none, in_range, in_r
 use Rattle.cluster_types.specs.declared.cluster.Cluster.{Cluster}
 use Rattle.cluster_types.specs.declared.journal.Event.{Event}
 use Rattle.cluster_types.specs.declared.rules.Order.{Order}
-use Rattle.cluster_types.specs.NeededActions.{OrderMayCycle, can_cycle, has_disturbing, steps_at}
+use Rattle.cluster_types.specs.NeededActions.{OrderCanCycle, can_cycle, has_disturbing, steps_at}
 use Rattle.cluster_types.specs.LeastSets.{IsClosedUnderCycling}
 use Rattle.cluster_types.specs.Tables.{Targets, is_in_scope}
-use Rattle.planner.specs.CycledCells.{MarkedCells, NoneComesBack, first_marks, is_cycling, is_disturbed, may_be_marked, with_order, with_orders}
+use Rattle.planner.specs.CycledCells.{MarkedCells, NoneComesBack, first_marks, is_cycling, is_disturbed, can_be_marked, with_order, with_orders}
 use Rattle.planner.proofs.OrderWords.{cycling_of}
 
 module _ (c : Cluster) (es : List Event) (targets : Targets) where
@@ -35,7 +35,7 @@ module _ (c : Cluster) (es : List Event) (targets : Targets) where
 
   -- the first of the order is disturbed on some node in scope, by these marks
   pub record Reaches (marks : MarkedCells) (o : Order) (n : ℕ) : Type 0 where
-    pub may : may_be_marked c es targets o n ≡ true
+    pub may : can_be_marked c es targets o n ≡ true
     pub node : ℕ
     pub within : node < length c.nodes
     pub scope : is_in_scope o n node ≡ true
@@ -49,7 +49,7 @@ module _ (c : Cluster) (es : List Event) (targets : Targets) where
       (in_range 0 (length c.nodes) h.node (omega arith) (let w = h.within in omega arith))
       (and_from (is_in_scope o n h.node) _ h.scope h.disturbed) in
       or_right (marks o.then_leaf n) _
-      (and_from (o.then_leaf == o.then_leaf) _ same (and_from (may_be_marked c es targets o n) _ h.may found))
+      (and_from (o.then_leaf == o.then_leaf) _ same (and_from (can_be_marked c es targets o n) _ h.may found))
 
   -- what the last marks say of the first of an order, the marks at its turn said
   back_to : (marks : MarkedCells) (o : Order) (os : List Order) (n : ℕ) → ((p : Order) → Contains (o ∷ os) p → p.then_leaf ≢ o.first)
@@ -83,7 +83,7 @@ module _ (c : Cluster) (es : List Event) (targets : Targets) where
     abbrev last_marks : MarkedCells
     last_marks = with_orders c es targets (first_marks c es targets) os
 
-    reached : (o : Order) (n m : ℕ) → OrderMayCycle c es targets o n m
+    reached : (o : Order) (n m : ℕ) → OrderCanCycle c es targets o n m
         → is_disturbed c es targets last_marks o m ≡ true → last_marks o.then_leaf n ≡ true
     reached o n m may h =
         let there = all o may.present

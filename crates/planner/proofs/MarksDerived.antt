@@ -9,11 +9,11 @@ use Rattle.cluster_types.specs.declared.cluster.Cluster.{Cluster}
 use Rattle.cluster_types.specs.declared.journal.Event.{Event}
 use Rattle.cluster_types.specs.declared.rules.Order.{Order}
 use Rattle.cluster_types.specs.Fields.{copies}
-use Rattle.cluster_types.specs.NeededActions.{Cycled, by_copies, by_order, by_cycled, OrderMayCycle, can_cycle, has_disturbing, steps_at}
+use Rattle.cluster_types.specs.NeededActions.{Cycled, by_copies, by_order, by_cycled, OrderCanCycle, can_cycle, has_disturbing, steps_at}
 use Rattle.cluster_types.specs.Precedence.{role_given}
 use Rattle.cluster_types.specs.Tables.{Targets, holds_role, is_in_scope}
 use Rattle.cluster_types.specs.Terms.{active_count}
-use Rattle.planner.specs.CycledCells.{MarkedCells, first_marks, is_cycling, is_disturbed, is_marked_by, may_be_marked, with_order, with_orders}
+use Rattle.planner.specs.CycledCells.{MarkedCells, first_marks, is_cycling, is_disturbed, is_marked_by, can_be_marked, with_order, with_orders}
 use Rattle.planner.proofs.OrderWords.{Cycles, cycles_of}
 
 module _ (c : Cluster) (es : List Event) (targets : Targets) where
@@ -32,8 +32,8 @@ module _ (c : Cluster) (es : List Event) (targets : Targets) where
       (later (lr && ln && can) (nat_lt (copies c r) (active_count c es r)) h)
 
   module _ (marks : MarkedCells) (so_far : AllCycled marks) (o : Order) (among : Contains c.orders o) (cycling : is_cycling o ≡ true) where
-    may_cycle : (n m : ℕ) → may_be_marked c es targets o n ≡ true → m < length c.nodes → is_in_scope o n m ≡ true
-        → OrderMayCycle c es targets o n m
+    may_cycle : (n m : ℕ) → can_be_marked c es targets o n ≡ true → m < length c.nodes → is_in_scope o n m ≡ true
+        → OrderCanCycle c es targets o n m
     may_cycle n m h lt scope =
         let k : Cycles o = cycles_of o cycling in
         let ln : Bool = nat_lt n (length c.nodes) in
@@ -52,7 +52,7 @@ module _ (c : Cluster) (es : List Event) (targets : Targets) where
           in_role = later (ln && can) (holds_role targets o.then_leaf (role_given o.then_op) n) h;
         }
 
-    by_disturbed : (n m : ℕ) → OrderMayCycle c es targets o n m
+    by_disturbed : (n m : ℕ) → OrderCanCycle c es targets o n m
         → is_disturbed c es targets marks o m ≡ true → Cycled c es targets o.then_leaf n
     by_disturbed n m may h =
         elim (or_cases (has_disturbing o.first_op (steps_at c es targets o.first m false))
@@ -63,7 +63,7 @@ module _ (c : Cluster) (es : List Event) (targets : Targets) where
               (later (marks o.first m) _ again)
         ]
 
-    by_some : (n : ℕ) → may_be_marked c es targets o n ≡ true
+    by_some : (n : ℕ) → can_be_marked c es targets o n ≡ true
         → Any (λ m. is_in_scope o n m && is_disturbed c es targets marks o m ≡ true) (range_with_len 0 (length c.nodes))
         → Cycled c es targets o.then_leaf n
     by_some n h (k, m, lt, at, t) =
@@ -72,9 +72,9 @@ module _ (c : Cluster) (es : List Event) (targets : Targets) where
 
     marked_cycled : (n : ℕ) → is_marked_by c es targets marks o n ≡ true → Cycled c es targets o.then_leaf n
     marked_cycled n h =
-        by_some n (sooner (may_be_marked c es targets o n) _ h)
+        by_some n (sooner (can_be_marked c es targets o n) _ h)
         (Any-from_list_any (λ m. is_in_scope o n m && is_disturbed c es targets marks o m) (range_with_len 0 (length c.nodes))
-        (later (may_be_marked c es targets o n) _ h))
+        (later (can_be_marked c es targets o n) _ h))
 
     new_cycled : (r n : ℕ) → r ≡ o.then_leaf → is_marked_by c es targets marks o n ≡ true → Cycled c es targets r n
     new_cycled r n e h = rw e (marked_cycled n h)

@@ -14,7 +14,7 @@ use Rattle.cluster_types.specs.declared.leaf.Role.TheVariants as role
 use Rattle.cluster_types.specs.declared.placement.Placed.{Placed}
 use Rattle.cluster_types.specs.Fields.{is_promotable, monitors}
 use Rattle.cluster_types.specs.NeededActions.{NeededBeforeMigration, GetsStep, Needed, fence, kept, monitor, probe, sent, step, taken_in}
-use Rattle.cluster_types.specs.Numbers.{Place, link, action_place, rank, step_of}
+use Rattle.cluster_types.specs.Numbers.{ActionPlace, link, action_place, rank, step_of}
 use Rattle.cluster_types.specs.Plans.{IsPlaced}
 use Rattle.cluster_types.specs.Precedence.{is_migrating}
 use Rattle.cluster_types.specs.Tables.{Targets, targets_of}
@@ -29,7 +29,7 @@ use Rattle.planner.proofs.ActionKinds.{index_by, kind, node_of}
 use Rattle.planner.proofs.ToldApart.{told_apart}
 
 -- the kind of what stands at a place
-abbrev kind_by : Cluster → Place → ℕ
+abbrev kind_by : Cluster → ActionPlace → ℕ
 kind_by c p =
     if p.phase == 0 then 15
     else (if p.phase == 1 then 0
@@ -138,6 +138,6 @@ module _ (c : Cluster) (es : List Event) (ps : List Promotion) (placed : Placed)
       → action_place c actions x ≡ action_place c actions y → x ≡ y
   own_place needed x y h k e =
       told_apart c es ps placed actions valid is needed x y h k
-      (sym (leaf_at c actions x) ∙ (ap (λ (p : Place). p.leaf) e ∙ leaf_at c actions y))
-      (sym (node_at c actions x) ∙ (ap (λ (p : Place). p.node) e ∙ node_at c actions y))
+      (sym (leaf_at c actions x) ∙ (ap (λ (p : ActionPlace). p.leaf) e ∙ leaf_at c actions y))
+      (sym (node_at c actions x) ∙ (ap (λ (p : ActionPlace). p.node) e ∙ node_at c actions y))
       (sym (needed_kind x h) ∙ (ap (kind_by c) e ∙ needed_kind y k))

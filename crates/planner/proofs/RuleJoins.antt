@@ -10,14 +10,14 @@ use Rattle.cluster_types.specs.declared.leaf.Op.TheVariants as op
 use Rattle.cluster_types.specs.declared.rules.Colocation.{Colocation}
 use Rattle.cluster_types.specs.declared.rules.Order.{Order}
 use Rattle.cluster_types.specs.Choice.{is_separation}
-use Rattle.cluster_types.specs.Precedence.{CellOf, as_earlier, as_later, both, cell_of, gives_role, inverse, is_inverse_pair, is_one_cell, is_ordered, is_ordered_pair, is_parted, is_serialize, is_taken_back, is_giving, op_cell, parts_first, takers, takes_or_probes}
+use Rattle.cluster_types.specs.Precedence.{LeafOnNode, as_earlier, as_later, both, cell_of, gives_role, inverse, is_inverse_pair, is_one_cell, is_ordered, is_ordered_pair, is_parted, is_serialize, is_taken_back, is_giving, op_cell, parts_first, takers, takes_or_probes}
 use Rattle.cluster_types.specs.Tables.{is_in_scope}
 use Rattle.planner.specs.declared.precedence.sides.Side.TheVariants as side
 use Rattle.planner.specs.Joins.{join, colocation_joins, earlier_taker, in_leaf, inverse_join, is_joined, later_demote, later_taker, order_joins, take_cell}
 use Rattle.planner.proofs.Tests.{any_same}
 
 -- a separation
-pub parted_joined : (r s : ℕ) (u v : Option CellOf) → both (λ a b. a.leaf == r && b.leaf == s && a.node == b.node) u v ≡ both is_one_cell (in_leaf r true u) (in_leaf s true v)
+pub parted_joined : (r s : ℕ) (u v : Option LeafOnNode) → both (λ a b. a.leaf == r && b.leaf == s && a.node == b.node) u v ≡ both is_one_cell (in_leaf r true u) (in_leaf s true v)
 parted_joined r s (Some a) (Some b) = on (a.leaf == r) (b.leaf == s)
   where
     on : (p q : Bool) → (p && q && (a.node == b.node)) ≡ both is_one_cell (if p then cell_of 0 a.node else None) (if q then cell_of 0 b.node else None)
@@ -53,7 +53,7 @@ scoped : (local : Bool) (n m : ℕ) → (not local || n == m) ≡ ((if local the
 scoped true n m = refl
 scoped false n m = refl
 
-pub ordered_joined : (o : Order) (r s : ℕ) (u v : Option CellOf)
+pub ordered_joined : (o : Order) (r s : ℕ) (u v : Option LeafOnNode)
     → both (λ a b. a.leaf == r && b.leaf == s && is_in_scope o a.node b.node) u v ≡ both is_one_cell (in_leaf r o.local u) (in_leaf s o.local v)
 ordered_joined o r s (Some a) (Some b) = on (a.leaf == r) (b.leaf == s)
   where
@@ -70,8 +70,8 @@ ordered_joined o r s (Some a) None = on (a.leaf == r)
 ordered_joined o r s None v = refl
 
 -- the sides of an inverse: what takes what a word gives, in one side
-module _ (T : CellOf → CellOf → Bool) where
-  either_taker : (x : Action) (v : Option CellOf) → (both T (op_cell op.Demote x) v || both T (op_cell op.Stop x) v) ≡ both T (take_cell x) v
+module _ (T : LeafOnNode → LeafOnNode → Bool) where
+  either_taker : (x : Action) (v : Option LeafOnNode) → (both T (op_cell op.Demote x) v || both T (op_cell op.Stop x) v) ≡ both T (take_cell x) v
   either_taker (Fence n) v = refl
   either_taker (Probe r n) v = refl
   either_taker (Operation op.Start r n i role) v = refl
@@ -82,7 +82,7 @@ module _ (T : CellOf → CellOf → Bool) where
   either_taker (MigrateTo r s t) v = refl
   either_taker (MigrateFrom r s t) v = refl
 
-  pub earlier_takers : (o : Op) (x : Action) (v : Option CellOf) → list_any (λ p. both T (as_earlier p x) v) (takers o) ≡ both T (earlier_taker o x) v
+  pub earlier_takers : (o : Op) (x : Action) (v : Option LeafOnNode) → list_any (λ p. both T (as_earlier p x) v) (takers o) ≡ both T (earlier_taker o x) v
   earlier_takers op.Start x v = or-false (both T (op_cell op.Stop x) v)
   earlier_takers op.Promote x v =
       ap (λ w. both T (op_cell op.Demote x) v || w) (or-false (both T (op_cell op.Stop x) v)) ∙ either_taker x v
@@ -90,19 +90,19 @@ module _ (T : CellOf → CellOf → Bool) where
   earlier_takers op.Demote x v = refl
   earlier_takers op.Monitor x v = refl
 
-  none_later : (u : Option CellOf) → both T u None ≡ false
+  none_later : (u : Option LeafOnNode) → both T u None ≡ false
   none_later (Some a) = refl
   none_later None = refl
 
-  either_none : (u : Option CellOf) (w : Option CellOf) → (both T u None || both T u w) ≡ both T u w
+  either_none : (u : Option LeafOnNode) (w : Option LeafOnNode) → (both T u None || both T u w) ≡ both T u w
   either_none (Some a) w = refl
   either_none None w = refl
 
-  or_none : (u : Option CellOf) (w : Option CellOf) → (both T u w || both T u None) ≡ both T u w
+  or_none : (u : Option LeafOnNode) (w : Option LeafOnNode) → (both T u w || both T u None) ≡ both T u w
   or_none (Some a) w = or-false (both T (Some a) w)
   or_none None w = refl
 
-  later_either : (actions : List Action) (u : Option CellOf) (y : Action)
+  later_either : (actions : List Action) (u : Option LeafOnNode) (y : Action)
       → (both T u (op_cell op.Demote y) || both T u (as_later actions op.Stop y)) ≡ both T u (later_demote actions y)
   later_either actions u (Fence n) = either_none u None
   later_either actions u (Probe r n) = either_none u None
@@ -114,7 +114,7 @@ module _ (T : CellOf → CellOf → Bool) where
   later_either actions u (MigrateTo r s t) = either_none u (cell_of r s)
   later_either actions u (MigrateFrom r s t) = either_none u None
 
-  pub later_takers : (actions : List Action) (o : Op) (u : Option CellOf) (y : Action) → list_any (λ q. both T u (as_later actions q y)) (takers o) ≡ both T u (later_taker actions o y)
+  pub later_takers : (actions : List Action) (o : Op) (u : Option LeafOnNode) (y : Action) → list_any (λ q. both T u (as_later actions q y)) (takers o) ≡ both T u (later_taker actions o y)
   later_takers actions op.Start u y = or-false (both T u (as_later actions op.Stop y))
   later_takers actions op.Promote u y =
       ap (λ w. both T u (op_cell op.Demote y) || w) (or-false (both T u (as_later actions op.Stop y))) ∙ later_either actions u y
@@ -123,7 +123,7 @@ module _ (T : CellOf → CellOf → Bool) where
   later_takers actions op.Monitor u y = sym (none_later u)
 
 module _ (c : Cluster) (actions : List Action) (o : Order) (x y : Action) where
-  abbrev in_order : CellOf → CellOf → Bool
+  abbrev in_order : LeafOnNode → LeafOnNode → Bool
   in_order a b = a.leaf == o.then_leaf && b.leaf == o.first && is_in_scope o a.node b.node
 
   taken_back_joined : is_taken_back actions o x y

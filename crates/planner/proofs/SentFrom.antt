@@ -12,7 +12,7 @@ use Rattle.cluster_types.specs.declared.journal.Event.{Event}
 use Rattle.cluster_types.specs.declared.leaf.Op.TheVariants as op
 use Rattle.cluster_types.specs.declared.states.CellState.{CellState}
 use Rattle.cluster_types.specs.declared.states.CellState.TheVariants as cell
-use Rattle.cluster_types.specs.CellStates.{cell_state, is_blocked, is_left_open, last_outcome}
+use Rattle.cluster_types.specs.CellStates.{cell_state, is_blocked, is_unclear, last_outcome}
 use Rattle.cluster_types.specs.Fields.{is_cloned, is_promotable, may_migrate}
 use Rattle.cluster_types.specs.May.{may_be_running, may_be_promoted}
 use Rattle.cluster_types.specs.NeededActions.{GetsStep}
@@ -56,7 +56,7 @@ module _ (c : Cluster) (es : List Event) (targets : Targets) where
   pub runs_may : (r n : ℕ) → cell_state c r n es ≡ cell.On → may_be_running c r n es ≡ true
   runs_may r n h =
       on_may (not (is_online c n es)) (Rattle.std.specs.Prelude.is_none (last_outcome c r n es)) (is_blocked c r n es)
-      (may_be_running c r n es && is_left_open c r n es) (may_be_promoted c r n es) (may_be_running c r n es) h
+      (may_be_running c r n es && is_unclear c r n es) (may_be_promoted c r n es) (may_be_running c r n es) h
 
   -- the leaf is sent from the node, wherever it is started
   pub record Leaves (r n : ℕ) (free : Bool) : Type 0 where

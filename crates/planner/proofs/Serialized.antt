@@ -6,19 +6,19 @@ use Rattle.std.proofs.lemmas.Bool.{and_from, and_parts, eq-eqb, eqb-true, or_cas
 use Rattle.lemmas.proofs.Booleans.{number_itself}
 use Rattle.cluster_types.specs.declared.journal.Action.{Action}
 use Rattle.cluster_types.specs.declared.rules.Order.{Order}
-use Rattle.cluster_types.specs.Precedence.{CellOf, both, cell_of, change_cell, is_across, is_one_cell, is_serialize, is_serialized}
+use Rattle.cluster_types.specs.Precedence.{LeafOnNode, both, cell_of, change_cell, is_across, is_one_cell, is_serialize, is_serialized}
 use Rattle.planner.specs.Chains.{ArePlacesInOrder, IsChained, changes_at, earlier_of, is_earlier_at, is_cell_on, InChain}
 use Rattle.planner.specs.Joins.{in_leaf}
 use Rattle.planner.proofs.RuleJoins.{ordered_joined}
 use Rattle.planner.proofs.ChainOrder.{comes_stands, stands_comes}
 
 -- two cells of a side by node are one where they are on one node
-pub record OnOne (u v : Option CellOf) : Type 0 where
+pub record OnOne (u v : Option LeafOnNode) : Type 0 where
   pub node : ℕ
   pub one : is_cell_on node u ≡ true
   pub other : is_cell_on node v ≡ true
 
-on_one : (u v : Option CellOf) → both is_one_cell u v ≡ true → OnOne u v
+on_one : (u v : Option LeafOnNode) → both is_one_cell u v ≡ true → OnOne u v
 on_one (Some a) (Some b) h =
     let (p, q) = and_parts (a.leaf == b.leaf) (a.node == b.node) h in
     record { node = b.node; one = q; other = number_itself b.node }
@@ -26,19 +26,19 @@ on_one (Some a) None h = cc
 on_one None v h = cc
 
 -- the cells of one leaf by node have leaf 0
-zero_leaf : (r : ℕ) (local : Bool) (u : Option CellOf) (a : CellOf) → in_leaf r local u ≡ Some a → a.leaf ≡ 0
+zero_leaf : (r : ℕ) (local : Bool) (u : Option LeafOnNode) (a : LeafOnNode) → in_leaf r local u ≡ Some a → a.leaf ≡ 0
 zero_leaf r local (Some b) a h = on (b.leaf == r) h
   where
     on : (p : Bool) → (if p then cell_of 0 (if local then b.node else 0) else None) ≡ Some a → a.leaf ≡ 0
-    on true e = (let f : record { leaf = 0; node = (if local then b.node else 0) } ≡ a = cc in sym (ap (λ (v : CellOf). v.leaf) f))
+    on true e = (let f : record { leaf = 0; node = (if local then b.node else 0) } ≡ a = cc in sym (ap (λ (v : LeafOnNode). v.leaf) f))
     on false e = cc
 zero_leaf r local None a h = cc
 
-one_if_on : (r s : ℕ) (local : Bool) (u v : Option CellOf) (m : ℕ) → is_cell_on m (in_leaf r local u) ≡ true → is_cell_on m (in_leaf s local v) ≡ true
+one_if_on : (r s : ℕ) (local : Bool) (u v : Option LeafOnNode) (m : ℕ) → is_cell_on m (in_leaf r local u) ≡ true → is_cell_on m (in_leaf s local v) ≡ true
     → both is_one_cell (in_leaf r local u) (in_leaf s local v) ≡ true
 one_if_on r s local u v m h k = on (in_leaf r local u) (in_leaf s local v) refl refl h k
   where
-    on : (p q : Option CellOf) → in_leaf r local u ≡ p → in_leaf s local v ≡ q → is_cell_on m p ≡ true → is_cell_on m q ≡ true → both is_one_cell p q ≡ true
+    on : (p q : Option LeafOnNode) → in_leaf r local u ≡ p → in_leaf s local v ≡ q → is_cell_on m p ≡ true → is_cell_on m q ≡ true → both is_one_cell p q ≡ true
     on (Some a) (Some b) e f h k =
         let la = zero_leaf r local u a e in
         let lb = zero_leaf s local v b f in

@@ -7,7 +7,7 @@ use Rattle.cluster_types.specs.declared.journal.Event.{Event}
 use Rattle.cluster_types.specs.declared.journal.Promotion.{Promotion}
 use Rattle.cluster_types.specs.declared.placement.Placed.{Placed}
 use Rattle.cluster_types.specs.NeededActions.{Needed}
-use Rattle.cluster_types.specs.Numbers.{AreNeeded, Place, is_place_before, is_earlier, action_place}
+use Rattle.cluster_types.specs.Numbers.{AreNeeded, ActionPlace, is_place_before, is_earlier, action_place}
 use Rattle.cluster_types.specs.Plans.{IsPlan}
 use Rattle.cluster_types.specs.Tables.{Targets, targets_of}
 use Rattle.cluster_types.specs.Valid.{IsValid}
@@ -21,10 +21,10 @@ use Rattle.planner.proofs.Sorting.{is_there, sorted, sorted_pairs, was_there}
 -- lists with the same actions say alike of each action where it stands
 module _ (c : Cluster) (xs ys : List Action) (there : (a : Action) → Contains xs a → Contains ys a) (back : (a : Action) → Contains ys a → Contains xs a) where
   pub earlier_alike : (a b : Action) → is_earlier c xs a b ≡ is_earlier c ys a b
-  earlier_alike a b = ap (λ (p : Place). is_place_before p (action_place c xs b)) (same_place c xs ys there back a) ∙ ap (is_place_before (action_place c ys a)) (same_place c xs ys there back b)
+  earlier_alike a b = ap (λ (p : ActionPlace). is_place_before p (action_place c xs b)) (same_place c xs ys there back a) ∙ ap (is_place_before (action_place c ys a)) (same_place c xs ys there back b)
 
 -- places come one behind the other
-chained : (p q r : Place) → is_place_before p q ≡ true → is_place_before q r ≡ true → is_place_before p r ≡ true
+chained : (p q r : ActionPlace) → is_place_before p q ≡ true → is_place_before q r ≡ true → is_place_before p r ≡ true
 chained p q r h k = on (is_place_before p r) (is_place_before r q) refl refl where
   on : (a b : Bool) → is_place_before p r ≡ a → is_place_before r q ≡ b → is_place_before p r ≡ true
   on true b e f = e

@@ -16,7 +16,7 @@ use Rattle.cluster_types.specs.Tables.{targets_of}
 use Rattle.cluster_types.specs.Valid.{IsValid}
 use Rattle.cluster_types.proofs.NumberLaws.{not_both}
 use Rattle.loops.specs.Ranks.{AreMigrating}
-use Rattle.planner.specs.PlannedActions.{ArePlanned}
+use Rattle.planner.specs.PlannedActions.{AreOfSomePlan}
 use Rattle.planner.proofs.OwnPlaces.{own_place}
 use Rattle.planner.proofs.PlaceOrder.{place_cmp, place_less}
 use Rattle.planner.proofs.WeakOrder.{chain_places, one_first}
@@ -38,7 +38,7 @@ the_one : (a b : Bool) → not (a || b) ≡ false → b ≡ false → a ≡ true
 the_one true b h k = refl
 the_one false b h k = cc
 
-module _ (c : Cluster) (valid : IsValid c) (xs ys : List Action) (planned : ArePlanned c xs) (moved : IsPermutation xs ys) where
+module _ (c : Cluster) (valid : IsValid c) (xs ys : List Action) (planned : AreOfSomePlan c xs) (moved : IsPermutation xs ys) where
   needed_by : (a : Action) → Contains ys a ↔ Needed c planned.events (targets_of planned.placed.table) a
   needed_by a =
       let same = moved_members xs ys moved a in
@@ -80,7 +80,7 @@ module _ (c : Cluster) (valid : IsValid c) (xs ys : List Action) (planned : AreP
       (sorted_far less less_weak ys (by_less h) i j d (omega arith) m)
 
   -- the same actions, in the order of their numbers
-  pub planned_still : AllPairs (λ x y. is_earlier c ys x y ≡ true) ys → ArePlanned c ys
+  pub planned_still : AllPairs (λ x y. is_earlier c ys x y ≡ true) ys → AreOfSomePlan c ys
   planned_still up = record {
     events = planned.events;
     promotions = planned.promotions;

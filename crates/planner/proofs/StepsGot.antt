@@ -7,7 +7,7 @@ use Rattle.lemmas.proofs.Searches.{passes_by}
 use Rattle.cluster_types.specs.declared.cluster.Cluster.{Cluster}
 use Rattle.cluster_types.specs.declared.journal.Event.{Event}
 use Rattle.cluster_types.specs.declared.leaf.Op.{Op}
-use Rattle.cluster_types.specs.NeededActions.{Cycled, GetsAny, GetsStep, GetsStepAnywhere, steps_at}
+use Rattle.cluster_types.specs.NeededActions.{Cycled, GetsAnyStep, GetsStep, GetsStepAnywhere, steps_at}
 use Rattle.cluster_types.specs.Tables.{Targets}
 use Rattle.planner.specs.Inner.Actions.{is_filled, is_touched, steps_in}
 use Rattle.planner.specs.CycledCells.{MarkedCells}
@@ -38,10 +38,10 @@ module _ (c : Cluster) (es : List Event) (targets : Targets) (need : ℕ → ℕ
     on false e (inl k) = absurd (both_ways (marked r n) e ((told.cycled r n).1 k.0))
     on false e (inr k) = k.1
 
-  pub gets_any : (r n : ℕ) → r < length c.leaves → n < length c.nodes → is_filled (steps_in need marked r n) ≡ true → GetsAny c es targets r n
+  pub gets_any : (r n : ℕ) → r < length c.leaves → n < length c.nodes → is_filled (steps_in need marked r n) ≡ true → GetsAnyStep c es targets r n
   gets_any r n lr ln h = let f = first_step (steps_in need marked r n) h in (f.0, gets r n f.0 lr ln f.1)
 
-  pub any_got : (r n : ℕ) → r < length c.leaves → n < length c.nodes → GetsAny c es targets r n → is_filled (steps_in need marked r n) ≡ true
+  pub any_got : (r n : ℕ) → r < length c.leaves → n < length c.nodes → GetsAnyStep c es targets r n → is_filled (steps_in need marked r n) ≡ true
   any_got r n lr ln g = filled (steps_in need marked r n) g.0 (got r n g.0 lr ln g.1)
 
   -- and so are the leaves that get a step anywhere

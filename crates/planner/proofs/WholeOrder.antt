@@ -15,17 +15,17 @@ use Rattle.planner.specs.ActionNames.{IsActionWithin}
 use Rattle.planner.proofs.NeededWithin.{needed_within}
 use Rattle.planner.proofs.Upward.{is_graph}
 use Rattle.plan_laws.proofs.LowerNumbers.{promotable_target}
-use Rattle.planner.specs.PlannedActions.{ArePlanned}
+use Rattle.planner.specs.PlannedActions.{AreOfSomePlan}
 use Rattle.planner.proofs.Few.{few_edges}
 use Rattle.planner.proofs.Sorted.{numbered_by, planned_still}
 
 -- planned actions are within the cluster
-pub planned_within : (c : Cluster) (actions : List Action) → ArePlanned c actions → (a : Action) → Contains actions a → IsActionWithin c a
+pub planned_within : (c : Cluster) (actions : List Action) → AreOfSomePlan c actions → (a : Action) → Contains actions a → IsActionWithin c a
 planned_within c actions planned a h = needed_within c planned.events (targets_of planned.placed.table) a ((planned.needed.needed a).0 h)
 
-module _ (c : Cluster) (valid : IsValid c) (xs ys : List Action) (planned : ArePlanned c xs) (moved : IsPermutation xs ys)
+module _ (c : Cluster) (valid : IsValid c) (xs ys : List Action) (planned : AreOfSomePlan c xs) (moved : IsPermutation xs ys)
     (up : AllPairs (λ x y. is_earlier c ys x y ≡ true) ys) where
-  still : ArePlanned c ys
+  still : AreOfSomePlan c ys
   still = planned_still c valid xs ys planned moved up
 
   pub few : most_edges c ys ≤ 2000000000

@@ -3,7 +3,7 @@ use Rattle.std.specs.Prelude.{◌≡◌, ℕ, ◌<◌, ◌==◌, Bool, true, fal
 use Rattle.std.specs.Option.{option_map_or}
 use Rattle.cluster_types.specs.declared.journal.Action.{Action}
 use Rattle.cluster_types.specs.declared.rules.Order.{Order}
-use Rattle.cluster_types.specs.Precedence.{CellOf, change_cell}
+use Rattle.cluster_types.specs.Precedence.{LeafOnNode, change_cell}
 use Rattle.planner.specs.Joins.{in_leaf}
 
 -- one stands before another in a list
@@ -17,7 +17,7 @@ pub record InChain (is_first is_then : ℕ → Bool) (places : List ℕ) (x y : 
   pub then_is : is_then y ≡ true
   pub before : StandsBefore x y places
 
-abbrev pub is_cell_on : ℕ → Option CellOf → Bool
+abbrev pub is_cell_on : ℕ → Option LeafOnNode → Bool
 is_cell_on m (Some a) = a.node == m
 is_cell_on m None = false
 

@@ -33,13 +33,13 @@ module _ (c : Cluster) (es : List Event) (targets : Targets) where
       || marks o.first m && has_disturbing o.first_op (steps_at c es targets o.first m true)
 
   -- the then of the order is there to stay on the node
-  abbrev pub may_be_marked : Order → ℕ → Bool
-  may_be_marked o n =
+  abbrev pub can_be_marked : Order → ℕ → Bool
+  can_be_marked o n =
       nat_lt n (length c.nodes) && can_cycle c es targets o.then_leaf n && holds_role targets o.then_leaf (role_given o.then_op) n
 
   abbrev pub is_marked_by : MarkedCells → Order → ℕ → Bool
   is_marked_by marks o n =
-      may_be_marked o n && list_any (λ m. is_in_scope o n m && is_disturbed marks o m) (range_with_len 0 (length c.nodes))
+      can_be_marked o n && list_any (λ m. is_in_scope o n m && is_disturbed marks o m) (range_with_len 0 (length c.nodes))
 
   -- the marks with those that an order adds
   abbrev pub with_order : MarkedCells → Order → MarkedCells

@@ -13,69 +13,69 @@ use Rattle.planner.specs.declared.precedence.sides.Side.{Side}
 use Rattle.planner.specs.declared.precedence.sides.Side.TheVariants as side
 use Rattle.cluster_types.specs.Choice.{is_separation}
 use Rattle.cluster_types.specs.Fields.{copies}
-use Rattle.cluster_types.specs.Precedence.{CellOf, as_earlier, as_later, both, cell_of, change_cell, gives_any, gives_role, inverse, is_one_cell, is_serialize, is_giving, op_cell, probe_cell, takes_or_probes}
+use Rattle.cluster_types.specs.Precedence.{LeafOnNode, as_earlier, as_later, both, cell_of, change_cell, gives_any, gives_role, inverse, is_one_cell, is_serialize, is_giving, op_cell, probe_cell, takes_or_probes}
 
 -- by leaf alone, and all together
-abbrev pub by_leaf : Option CellOf → Option CellOf
+abbrev pub by_leaf : Option LeafOnNode → Option LeafOnNode
 by_leaf (Some a) = cell_of a.leaf 0
 by_leaf None = None
 
-abbrev pub same_join_cell : Option CellOf → Option CellOf
+abbrev pub same_join_cell : Option LeafOnNode → Option LeafOnNode
 same_join_cell (Some a) = cell_of 0 0
 same_join_cell None = None
 
 -- by leaf where it has fewer copies than there are nodes, and else by cell
-abbrev pub alone : Cluster → Option CellOf → Option CellOf
+abbrev pub alone : Cluster → Option LeafOnNode → Option LeafOnNode
 alone c (Some a) = cell_of a.leaf (if nat_lt (copies c a.leaf) (length c.nodes) then 0 else a.node)
 alone c None = None
 
 -- the cells of one leaf: by node, or all together
-abbrev pub in_leaf : ℕ → Bool → Option CellOf → Option CellOf
+abbrev pub in_leaf : ℕ → Bool → Option LeafOnNode → Option LeafOnNode
 in_leaf r by_node (Some a) = if a.leaf == r then cell_of 0 (if by_node then a.node else 0) else None
 in_leaf r by_node None = None
 
-abbrev pub fence_cell : Action → Option CellOf
+abbrev pub fence_cell : Action → Option LeafOnNode
 fence_cell (action.Fence n) = cell_of 0 0
 fence_cell _ = None
 
-abbrev pub before_stop : Action → Option CellOf
+abbrev pub before_stop : Action → Option LeafOnNode
 before_stop (action.MigrateFrom r source target) = cell_of r source
 before_stop a = op_cell op.Demote a
 
-abbrev pub before_monitor : Action → Option CellOf
+abbrev pub before_monitor : Action → Option LeafOnNode
 before_monitor (action.MigrateFrom r source target) = cell_of r target
 before_monitor a = change_cell a
 
-abbrev pub send_cell : Action → Option CellOf
+abbrev pub send_cell : Action → Option LeafOnNode
 send_cell (action.MigrateTo r source target) = cell_of r 0
 send_cell _ = None
 
-abbrev pub take_in_cell : Action → Option CellOf
+abbrev pub take_in_cell : Action → Option LeafOnNode
 take_in_cell (action.MigrateFrom r source target) = cell_of r 0
 take_in_cell _ = None
 
 -- a demote or a stop
-abbrev pub take_cell : Action → Option CellOf
+abbrev pub take_cell : Action → Option LeafOnNode
 take_cell (action.Operation op.Demote r n interval role) = cell_of r n
 take_cell a = op_cell op.Stop a
 
 -- what takes what the word gives, as the earlier and as the later of a pair
-abbrev pub earlier_taker : Op → Action → Option CellOf
+abbrev pub earlier_taker : Op → Action → Option LeafOnNode
 earlier_taker op.Start a = op_cell op.Stop a
 earlier_taker op.Promote a = take_cell a
 earlier_taker _ a = None
 
-abbrev pub later_demote : List Action → Action → Option CellOf
+abbrev pub later_demote : List Action → Action → Option LeafOnNode
 later_demote actions (action.Operation op.Demote r n interval role) = cell_of r n
 later_demote actions a = as_later actions op.Stop a
 
-abbrev pub later_taker : List Action → Op → Action → Option CellOf
+abbrev pub later_taker : List Action → Op → Action → Option LeafOnNode
 later_taker actions op.Start a = as_later actions op.Stop a
 later_taker actions op.Promote a = later_demote actions a
 later_taker actions _ a = None
 
 -- by which cell an action stands on a side, if it does
-abbrev pub side_key_of : Cluster → List Action → Side → Action → Option CellOf
+abbrev pub side_key_of : Cluster → List Action → Side → Action → Option LeafOnNode
 side_key_of c actions side.Probes a = by_leaf (probe_cell a)
 side_key_of c actions side.Gives a = by_leaf (gives_any a)
 side_key_of c actions side.StopsAlone a = alone c (op_cell op.Stop a)

@@ -11,7 +11,7 @@ use Rattle.cluster_types.specs.Plans.{IsPlaced}
 use Rattle.cluster_types.specs.Tables.{targets_of}
 
 -- these are needed, each once, for what some journal and promotion scores place
-pub record ArePlanned (c : Cluster) (actions : List Action) : Type 0 where
+pub record AreOfSomePlan (c : Cluster) (actions : List Action) : Type 0 where
   pub events : List Event
   pub promotions : List Promotion
   pub placed : Placed

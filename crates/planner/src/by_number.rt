@@ -4,7 +4,7 @@ ghost use Rattle.std.specs.Prelude.{◌≡◌, AllPairs, IfOk, true};
 ghost use Rattle.std.specs.List.Sorted.{IsPermutation};
 ghost use Rattle.cluster_types.specs.Numbers.{is_earlier};
 ghost use Rattle.cluster_types.specs.Valid.{IsValid};
-ghost use Rattle.planner.specs.PlannedActions.{ArePlanned};
+ghost use Rattle.planner.specs.PlannedActions.{AreOfSomePlan};
 
 use crate::migrating_flags;
 use cluster_types::{Action, Cluster, NoMemory};
@@ -18,7 +18,7 @@ pub fn in_number_order(
     mut actions: Vec<Action>,
 ) -> Result<Vec<Action>, NoMemory>
     requires valid { IsValid cluster.now }
-    requires planned { ArePlanned cluster.now actions.items }
+    requires planned { AreOfSomePlan cluster.now actions.items }
     ensures moved { IfOk result (λ sorted. IsPermutation actions.items sorted.items) }
     ensures in_order { IfOk result (λ sorted. AllPairs (λ x y. is_earlier cluster.now sorted.items x y ≡ true) sorted.items) }
 {

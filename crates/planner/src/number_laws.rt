@@ -11,7 +11,7 @@ ghost use Rattle.cluster_types.specs.Numbers.{action_place};
 ghost use Rattle.cluster_types.specs.Plans.{IsPlaced, most_edges};
 ghost use Rattle.cluster_types.specs.Tables.{targets_of};
 ghost use Rattle.cluster_types.specs.Valid.{IsValid};
-ghost use Rattle.planner.specs.PlannedActions.{ArePlanned};
+ghost use Rattle.planner.specs.PlannedActions.{AreOfSomePlan};
 
 /// No two needed actions have one place in the order of numbers. So of each plan there is one order of numbers.
 pub fn needed_actions_have_places_of_their_own()
@@ -23,5 +23,5 @@ pub fn needed_actions_have_places_of_their_own()
 
 /// The graph of a plan of a valid cluster, however large, has at most a hundred million edges.
 pub fn plans_have_few_edges()
-    ensures { (c : ClusterOf) (actions : List ActionOf) → IsValid c → ArePlanned c actions → most_edges c actions ≤ 100000000 }
+    ensures { (c : ClusterOf) (actions : List ActionOf) → IsValid c → AreOfSomePlan c actions → most_edges c actions ≤ 100000000 }
 {}

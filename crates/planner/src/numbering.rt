@@ -9,7 +9,7 @@ ghost use Rattle.cluster_types.specs.Plans.{precedes_by_number};
 ghost use Rattle.cluster_types.specs.Steps.{numbered};
 ghost use Rattle.cluster_types.specs.Tables.{Targets};
 ghost use Rattle.cluster_types.specs.Valid.{IsValid};
-ghost use Rattle.planner.specs.PlannedActions.{ArePlanned};
+ghost use Rattle.planner.specs.PlannedActions.{AreOfSomePlan};
 ghost use Rattle.planner.specs.PrecedenceEdges.{AreFewEdges};
 
 use crate::by_number::in_number_order;
@@ -26,7 +26,7 @@ use std::alloc::Global;
 /// its leaves.
 pub fn number(alloc: Global, cluster: &Cluster, actions: Vec<Action>) -> Result<Graph, NoMemory>
     requires valid { IsValid cluster.now }
-    requires planned { ArePlanned cluster.now actions.items }
+    requires planned { AreOfSomePlan cluster.now actions.items }
     ensures numbered { IfOk result (λ graph. (events : List EventOf) (targets : Targets) → AreNeeded (Needed cluster.now events targets) actions.items
         → AreNumbered cluster.now (Needed cluster.now events targets) graph.actions) }
     ensures pairs { IfOk result (λ graph. (j k : ℕ)

@@ -18,11 +18,11 @@ use Rattle.cluster_types.specs.Journals.{Orderly}
 use Rattle.cluster_types.specs.LawfulTables.{IsLawfulCell}
 use Rattle.cluster_types.specs.NeededActions.{Needed}
 use Rattle.cluster_types.specs.NodeStates.{is_online}
-use Rattle.cluster_types.specs.Precedence.{CellOf, cell_of, gives_any, gives_role, is_parted, parts_first, takes_or_probes}
-use Rattle.cluster_types.specs.Safety.{MeetsNot, NoForbiddenNeighbour, may_have_role}
+use Rattle.cluster_types.specs.Precedence.{LeafOnNode, cell_of, gives_any, gives_role, is_parted, parts_first, takes_or_probes}
+use Rattle.cluster_types.specs.Safety.{StaysApart, NoForbiddenNeighbour, may_have_role}
 use Rattle.cluster_types.specs.Steps.{Transition, Begins, Goes, journal}
 use Rattle.cluster_types.specs.Tables.{Targets, holds_role, is_promoted_target}
-use Rattle.cluster_types.specs.Valid.{IsValidColocation, MayHaveRole}
+use Rattle.cluster_types.specs.Valid.{IsValidColocation, FitsRole}
 use Rattle.plan_laws.proofs.CellSteps.{is_known}
 use Rattle.run_safety.proofs.Begins.{each_begin}
 use Rattle.run_safety.proofs.Calm.{Calm}
@@ -36,7 +36,7 @@ use Rattle.run_safety.proofs.Placing.{IsGiven}
 use Rattle.run_safety.proofs.Truths.{own_cell}
 
 -- what gives a role gives something
-role_gives : (held : Role) (a : Action) (at : CellOf) → gives_role held a ≡ Some at → gives_any a ≡ Some at
+role_gives : (held : Role) (a : Action) (at : LeafOnNode) → gives_role held a ≡ Some at → gives_any a ≡ Some at
 role_gives role.Started (Operation op.Start r n i h) at e = e
 role_gives role.Started (MigrateTo r n m) at e = e
 role_gives role.Started (Operation op.Promote r n i h) at e = cc
@@ -53,18 +53,18 @@ module _ (t : Transition) (targets : Targets) (carries : Carries t targets) (sou
     (valid : (col : Colocation) → Contains t.cluster.colocations col → IsValidColocation t.cluster col) where
   module _ (since : List Event) (k : ℕ) (a : Action) (calm : Calm t since) (begins : Begins t since k a) where
     -- the role that is given is that of the target
-    promoted_held : (at : CellOf) → gives_role role.Promoted a ≡ Some at → is_promoted_target (targets at.leaf at.node) ≡ true
+    promoted_held : (at : LeafOnNode) → gives_role role.Promoted a ≡ Some at → is_promoted_target (targets at.leaf at.node) ≡ true
     promoted_held at e = by a e (carries.needed k a begins.action)
       where
         by : (a : Action) → gives_role role.Promoted a ≡ Some at → Needed t.cluster t.planned_at targets a
             → is_promoted_target (targets at.leaf at.node) ≡ true
         by (Operation op.Promote s m i h) e needs =
             let same : (record { leaf = s; node = m }) ≡ at = cc in
-            subst (λ (z : CellOf). is_promoted_target (targets z.leaf z.node) ≡ true) same
+            subst (λ (z : LeafOnNode). is_promoted_target (targets z.leaf z.node) ≡ true) same
             (promoted_gives t.cluster t.planned_at targets s m (Operation op.Promote s m i h) needs (own_cell s m))
         by _ e needs = cc
 
-    module _ (held other : Role) (r s : ℕ) (at : CellOf) (gives : gives_role held a ≡ Some at) (same : at.leaf ≡ r) where
+    module _ (held other : Role) (r s : ℕ) (at : LeafOnNode) (gives : gives_role held a ≡ Some at) (same : at.leaf ≡ r) where
       any : gives_any a ≡ Some at
       any = role_gives held a at gives
 
@@ -115,21 +115,21 @@ module _ (t : Transition) (targets : Targets) (carries : Carries t targets) (sou
             stops role.Started = refl
             stops role.Promoted = refl
 
-  there : (held : Role) (r : ℕ) → MayHaveRole t.cluster r held → r < length t.cluster.leaves
+  there : (held : Role) (r : ℕ) → FitsRole t.cluster r held → r < length t.cluster.leaves
   there role.Started r h = h
   there role.Promoted r h = h.0
 
   no_neighbour : (since : List Event) (k : ℕ) (a : Action) → Calm t since → Begins t since k a → (col : Colocation) → Contains t.cluster.colocations col → is_separation col ≡ true
-      → MeetsNot t since a col.dependent col.dependent_role col.primary col.primary_role × MeetsNot t since a col.primary col.primary_role col.dependent col.dependent_role
+      → StaysApart t since a col.dependent col.dependent_role col.primary col.primary_role × StaysApart t since a col.primary col.primary_role col.dependent col.dependent_role
   no_neighbour since k a calm begins col has apart =
       (one (gives_role col.dependent_role a) refl, other (gives_role col.primary_role a) refl)
     where
-      lawful : (at : CellOf) → gives_any a ≡ Some at → IsLawfulCell t.cluster t.planned_at targets at.leaf at.node
+      lawful : (at : LeafOnNode) → gives_any a ≡ Some at → IsLawfulCell t.cluster t.planned_at targets at.leaf at.node
       lawful at gives =
           let on : IsGiven t.cluster t.planned_at targets at.leaf at.node = is_given t targets carries sound orderly since k a calm begins at gives in
           sound.lawful.cells at.leaf at.node on.leaf on.node on.free on.somewhere
 
-      one : (o : Option CellOf) → gives_role col.dependent_role a ≡ o
+      one : (o : Option LeafOnNode) → gives_role col.dependent_role a ≡ o
           → IfSome o (λ at. at.leaf ≡ col.dependent → may_have_role t.cluster col.primary col.primary_role at.node (journal t since) ≡ false)
       one None e = tt
       one (Some at) e = λ same.
@@ -140,7 +140,7 @@ module _ (t : Transition) (targets : Targets) (carries : Carries t targets) (sou
           (subst (λ z. holds_role targets z col.dependent_role at.node ≡ true) (sym same)
           (has_target since k a calm begins col.dependent_role col.primary_role col.dependent col.primary at e same)))
 
-      other : (o : Option CellOf) → gives_role col.primary_role a ≡ o
+      other : (o : Option LeafOnNode) → gives_role col.primary_role a ≡ o
           → IfSome o (λ at. at.leaf ≡ col.primary → may_have_role t.cluster col.dependent col.dependent_role at.node (journal t since) ≡ false)
       other None e = tt
       other (Some at) e = λ same.
@@ -154,5 +154,5 @@ module _ (t : Transition) (targets : Targets) (carries : Carries t targets) (sou
   pub no_forbidden_neighbour : (whole : Bool) (rest left : Option (List Answer)) (later : List Event) → Goes t whole [] rest later left → NoForbiddenNeighbour t later
   no_forbidden_neighbour =
       each_begin t (λ before k a. (col : Colocation) → Contains t.cluster.colocations col → is_separation col ≡ true
-      → MeetsNot t before a col.dependent col.dependent_role col.primary col.primary_role × MeetsNot t before a col.primary col.primary_role col.dependent col.dependent_role)
+      → StaysApart t before a col.dependent col.dependent_role col.primary col.primary_role × StaysApart t before a col.primary col.primary_role col.dependent col.dependent_role)
       no_neighbour

@@ -7,7 +7,7 @@ use Rattle.cluster_types.specs.declared.journal.Answer.{Answer}
 use Rattle.cluster_types.specs.declared.journal.Event.{Event}
 use Rattle.cluster_types.specs.declared.placement.Target.{Target}
 use Rattle.cluster_types.specs.declared.placement.Target.TheVariants as target
-use Rattle.cluster_types.specs.CellStates.{cell_state, is_blocked, is_left_open, last_outcome}
+use Rattle.cluster_types.specs.CellStates.{cell_state, is_blocked, is_unclear, last_outcome}
 use Rattle.cluster_types.specs.Journals.{Orderly, joined, last_sign}
 use Rattle.cluster_types.specs.May.{may_be_running, may_be_promoted}
 use Rattle.cluster_types.specs.NodeStates.{is_online}
@@ -56,7 +56,7 @@ module _ (t : Transition) (targets : Targets) (carries : Carries t targets) (sou
       → is_pinned t.cluster t.planned_at r ≡ false → cell_state t.cluster r n (journal t since) ≡ state_of_target (targets r n)
   cell_as_targeted r n h l on free =
       as_target (targets r n) (is_online t.cluster n (journal t since)) (is_none (last_outcome t.cluster r n (journal t since))) (is_blocked t.cluster r n (journal t since))
-      (is_left_open t.cluster r n (journal t since)) (may_be_promoted t.cluster r n (journal t since)) (may_be_running t.cluster r n (journal t since))
+      (is_unclear t.cluster r n (journal t since)) (may_be_promoted t.cluster r n (journal t since)) (may_be_running t.cluster r n (journal t since))
       (online_still t since calm n on (there n on))
       (seen t since calm targets carries r n h l free on (done t targets carries sound orderly since calm all (Probe r n)))
       (unblocked t since calm targets carries r n h l free on)

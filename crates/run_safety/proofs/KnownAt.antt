@@ -17,7 +17,7 @@ use Rattle.cluster_types.specs.CellStates.{is_blocked, last_outcome, asks_for_bl
 use Rattle.cluster_types.specs.Failures.{ended_at, failures_in_force, is_failure, is_forgotten, outcomes}
 use Rattle.cluster_types.specs.Fields.{failure_timeout}
 use Rattle.cluster_types.specs.Journals.{joined, last_sign, moment_of, seconds_of}
-use Rattle.cluster_types.specs.NodeStates.{is_online, is_to_blame, asks_for_fence}
+use Rattle.cluster_types.specs.NodeStates.{is_online, has_failure_to_fence, asks_for_fence}
 use Rattle.cluster_types.specs.Pins.{is_pinned, is_unprobed_state}
 use Rattle.cluster_types.specs.Steps.{Transition, journal}
 use Rattle.cluster_types.specs.Tables.{Targets}
@@ -61,15 +61,15 @@ module _ (t : Transition) (since : List Event) (calm : Calm t since) where
   pub online_still : (n : ℕ) → is_online t.cluster n t.planned_at ≡ true → last_sign n (journal t since) ≡ Some joined → is_online t.cluster n (journal t since) ≡ true
   online_still n was there = rw there (rw (blamed ∙ blameless) refl)
     where
-      blamed : is_to_blame t.cluster n (journal t since) ≡ is_to_blame t.cluster n t.planned_at
+      blamed : has_failure_to_fence t.cluster n (journal t since) ≡ has_failure_to_fence t.cluster n t.planned_at
       blamed =
           any-same (λ r. list_any (asks_for_fence t.cluster) (failures_in_force t.cluster r n (journal t since)))
           (λ r. list_any (asks_for_fence t.cluster) (failures_in_force t.cluster r n t.planned_at)) (length t.cluster.leaves)
           (λ r low. ap (list_any (asks_for_fence t.cluster)) (failures_same r n))
 
-      blameless : is_to_blame t.cluster n t.planned_at ≡ false
+      blameless : has_failure_to_fence t.cluster n t.planned_at ≡ false
       blameless =
-          false_from_ne_true (is_to_blame t.cluster n t.planned_at) (λ e.
+          false_from_ne_true (has_failure_to_fence t.cluster n t.planned_at) (λ e.
           both_ways (is_online t.cluster n t.planned_at) (rw (online_joined t.cluster n t.planned_at was) (rw e refl)) was)
 
   -- a cell that wasn't blocked isn't

@@ -10,7 +10,7 @@ use Rattle.cluster_types.specs.declared.journal.Action.TheVariants.{Fence, Probe
 use Rattle.cluster_types.specs.declared.journal.Event.{Event}
 use Rattle.cluster_types.specs.declared.journal.Event.TheVariants.{Wait, Begin, Ended}
 use Rattle.cluster_types.specs.declared.journal.Outcome.{Outcome}
-use Rattle.cluster_types.specs.CellStates.{begins_sending_to, is_left_open, is_sent_away}
+use Rattle.cluster_types.specs.CellStates.{begins_sending_to, is_unclear, is_sent_away}
 use Rattle.cluster_types.specs.Cells.{is_of_cell, is_same_cell, is_sent_to, is_reset}
 use Rattle.cluster_types.specs.Failures.{is_failure, is_outcome}
 use Rattle.cluster_types.specs.Outcomes.{is_bad, is_ignored}
@@ -25,7 +25,7 @@ is_sending_from r n _ = false
 
 module _ (c : Cluster) (r n : ℕ) where
   abbrev pub IsSure : List Event → Type 0
-  IsSure es = is_left_open c r n es ≡ false
+  IsSure es = is_unclear c r n es ≡ false
 
   -- no outcome of the cell: it stays as it was, unless a migration to it begins
   other_sure : (es : List Event) (e : Event) → is_reset r n e ≡ false → is_outcome c r n e ≡ false → begins_sending_to r n e ≡ false

@@ -11,7 +11,7 @@ use Rattle.cluster_types.specs.declared.journal.Answer.{Answer}
 use Rattle.cluster_types.specs.declared.journal.Event.{Event}
 use Rattle.cluster_types.specs.declared.journal.Event.TheVariants.{Up, Lost, Quorum, Wait, Ended}
 use Rattle.cluster_types.specs.declared.journal.Outcome.TheVariants.{Code, Gone}
-use Rattle.cluster_types.specs.AnswersThatApply.{end_event, monitor_action, tells_news}
+use Rattle.cluster_types.specs.AnswersThatApply.{end_event, monitor_action, tells_failure}
 use Rattle.cluster_types.specs.Journals.{joined, Orderly, ends_number, is_on, last_sign, sign_of, needs_node}
 use Rattle.cluster_types.specs.NodeStates.{is_online}
 use Rattle.cluster_types.specs.Steps.{Transition, Goes, here, one_more, aborts, action_at, begins_number, in_flight_by_number, has_aborted, is_number_in_flight, journal}
@@ -89,7 +89,7 @@ gone_begins_nothing t since n =
     (map_all begins_nothing (end_event t.cluster (journal t since) (in_flight_by_number t since) Gone) (λ p. refl) (filter (λ (p : ℕ × Action). is_on n p.1) (in_flight_by_number t since))) refl
 
 module _ (t : Transition) (keeps : KeepsToNodes t) where
-  news_online : (since : List Event) (r n interval code : ℕ) → tells_news t.cluster (journal t since) (in_flight_by_number t since) n r interval code ≡ true
+  news_online : (since : List Event) (r n interval code : ℕ) → tells_failure t.cluster (journal t since) (in_flight_by_number t since) n r interval code ≡ true
       → is_online t.cluster n (journal t since) ≡ true
   news_online since r n interval code h = later _ _ (sooner _ _ (sooner _ _ (sooner _ _ (sooner _ _ h))))
 

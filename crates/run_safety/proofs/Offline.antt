@@ -14,8 +14,8 @@ use Rattle.cluster_types.specs.declared.leaf.Op.TheVariants.{Start, Promote, Dem
 use Rattle.cluster_types.specs.Failures.{failures_in_force}
 use Rattle.cluster_types.specs.Journals.{NodeSign, joined, went_down, was_lost, was_fenced, Orderly, last_sign, sign_of, needs_node}
 use Rattle.cluster_types.specs.May.{may_be_running, opens, closes, opens_cell}
-use Rattle.cluster_types.specs.NodeStates.{is_online, is_online_state, is_unclean, is_to_blame, state_by, asks_for_fence}
-use Rattle.cluster_types.specs.Outcomes.{effective, is_code_among, is_fence, action_fail}
+use Rattle.cluster_types.specs.NodeStates.{is_online, is_online_state, is_unclean, has_failure_to_fence, state_by, asks_for_fence}
+use Rattle.cluster_types.specs.Outcomes.{effective, is_code_among, is_fence, on_fail_of_action}
 use Rattle.cluster_types.proofs.MayLaws.{may-last}
 use Rattle.cluster_types.proofs.LastSigns.{signed}
 use Rattle.run_safety.proofs.Each.{more, none}
@@ -132,11 +132,11 @@ unfenced on_fail.Stop = refl
 unfenced on_fail.Block = refl
 
 module _ (c : Cluster) (n : ℕ) (es : List Event) where
-  blames_no_one : c.properties.fencing ≡ false → is_to_blame c n es ≡ false
+  blames_no_one : c.properties.fencing ≡ false → has_failure_to_fence c n es ≡ false
   blames_no_one off = any_none _ (λ r. any_none (asks_for_fence c) none_wants (failures_in_force c r n es)) (range_with_len 0 (length c.leaves))
     where
       none_wants : (e : Event) → asks_for_fence c e ≡ false
-      none_wants (Ended k a o moment) = rw off (unfenced (action_fail c a))
+      none_wants (Ended k a o moment) = rw off (unfenced (on_fail_of_action c a))
       none_wants (Up node) = refl
       none_wants (Down node) = refl
       none_wants (Lost node) = refl
@@ -160,9 +160,9 @@ module _ (c : Cluster) (n : ℕ) (es : List Event) where
           lost : (f : Bool) → c.properties.fencing ≡ f → IsOut
           lost true g = inl (rw e (rw g refl), g)
           lost false g = inr (rw e (rw g refl))
-      by (Some joined) e h = blamed (is_to_blame c n es) refl c.properties.fencing refl
+      by (Some joined) e h = blamed (has_failure_to_fence c n es) refl c.properties.fencing refl
         where
-          blamed : (b : Bool) → is_to_blame c n es ≡ b → (f : Bool) → c.properties.fencing ≡ f → IsOut
+          blamed : (b : Bool) → has_failure_to_fence c n es ≡ b → (f : Bool) → c.properties.fencing ≡ f → IsOut
           blamed true g true k = inl (rw e (rw g refl), k)
-          blamed true g false k = refuse (is_to_blame c n es) (blames_no_one k) g
+          blamed true g false k = refuse (has_failure_to_fence c n es) (blames_no_one k) g
           blamed false g f k = refuse (is_online_state (state_by c n es (Some joined))) h (rw g refl)

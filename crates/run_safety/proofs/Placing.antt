@@ -12,7 +12,7 @@ use Rattle.cluster_types.specs.declared.leaf.Role.TheVariants as role
 use Rattle.cluster_types.specs.CellStates.{cell_state}
 use Rattle.cluster_types.specs.NeededActions.{NeededBeforeMigration, fence, probe, step, monitor, Needed, kept, sent, taken_in}
 use Rattle.cluster_types.specs.Pins.{is_pinned}
-use Rattle.cluster_types.specs.Precedence.{CellOf, cell_of, gives_any}
+use Rattle.cluster_types.specs.Precedence.{LeafOnNode, cell_of, gives_any}
 use Rattle.cluster_types.specs.Tables.{Targets, is_somewhere}
 use Rattle.cluster_types.proofs.NeededLaws.{bounds_of_first}
 use Rattle.cluster_types.proofs.TableCells.{promoted_somewhere}
@@ -27,8 +27,8 @@ module _ (c : Cluster) (es : List Event) (targets : Targets) where
     pub somewhere : is_somewhere (targets r n) ≡ true
     pub known : is_known (cell_state c r n es) ≡ true
 
-  at_cell : (r n : ℕ) (at : CellOf) → cell_of r n ≡ Some at → IsGiven r n → IsGiven at.leaf at.node
-  at_cell r n at e is = let same : (record { leaf = r; node = n }) ≡ at = cc in subst (λ (z : CellOf). IsGiven z.leaf z.node) same is
+  at_cell : (r n : ℕ) (at : LeafOnNode) → cell_of r n ≡ Some at → IsGiven r n → IsGiven at.leaf at.node
+  at_cell r n at e is = let same : (record { leaf = r; node = n }) ≡ at = cc in subst (λ (z : LeafOnNode). IsGiven z.leaf z.node) same is
 
   of_start : (r n : ℕ) → r < length c.leaves → n < length c.nodes → IsStep c es targets r n op.Start → IsGiven r n
   of_start r n h l is = record {
@@ -39,7 +39,7 @@ module _ (c : Cluster) (es : List Event) (targets : Targets) where
     known = sooner (is_known (cell_state c r n es)) _ is.fitting;
   }
 
-  step_given : (r n : ℕ) (o : Op) (at : CellOf) → r < length c.leaves → n < length c.nodes → IsStep c es targets r n o → gives_any (Operation o r n 0 role.Started) ≡ Some at
+  step_given : (r n : ℕ) (o : Op) (at : LeafOnNode) → r < length c.leaves → n < length c.nodes → IsStep c es targets r n o → gives_any (Operation o r n 0 role.Started) ≡ Some at
       → IsGiven at.leaf at.node
   step_given r n op.Start at h l is e = at_cell r n at e (of_start r n h l is)
   step_given r n op.Promote at h l is e =
@@ -54,13 +54,13 @@ module _ (c : Cluster) (es : List Event) (targets : Targets) where
   step_given r n op.Demote at h l is e = absurd (let f : ⊥ = cc in f)
   step_given r n op.Monitor at h l is e = absurd (let f : ⊥ = cc in f)
 
-  first_given : (y : Action) (at : CellOf) → NeededBeforeMigration c es targets y → gives_any y ≡ Some at → IsGiven at.leaf at.node
+  first_given : (y : Action) (at : LeafOnNode) → NeededBeforeMigration c es targets y → gives_any y ≡ Some at → IsGiven at.leaf at.node
   first_given _ at (fence n l h) e = absurd (let f : ⊥ = cc in f)
   first_given _ at (probe r n h l u) e = absurd (let f : ⊥ = cc in f)
   first_given _ at (step r n o h l g) e = step_given r n o at h l (is_step c es targets r n o g) e
   first_given _ at (monitor r n m h l has needs) e = absurd (let f : ⊥ = cc in f)
 
-  pub given : (y : Action) (at : CellOf) → Needed c es targets y → gives_any y ≡ Some at → IsGiven at.leaf at.node
+  pub given : (y : Action) (at : LeafOnNode) → Needed c es targets y → gives_any y ≡ Some at → IsGiven at.leaf at.node
   given y at (kept _ f others) e = first_given y at f e
   given _ at (sent r n m g) e =
       let bounds = bounds_of_first c es targets op.Start r m 0 role.Started g.started in

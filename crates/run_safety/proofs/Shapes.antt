@@ -10,7 +10,7 @@ use Rattle.cluster_types.specs.declared.journal.Event.{Event}
 use Rattle.cluster_types.specs.declared.journal.Event.TheVariants.{Up, Lost, Quorum, Wait, Begin, Ended}
 use Rattle.cluster_types.specs.declared.journal.Outcome.{Outcome}
 use Rattle.cluster_types.specs.declared.journal.Outcome.TheVariants.{Code, TimedOut, Gone}
-use Rattle.cluster_types.specs.AnswersThatApply.{end_event, is_number_of, is_joined_sign, monitor_action, tells_news}
+use Rattle.cluster_types.specs.AnswersThatApply.{end_event, is_number_of, is_joined_sign, monitor_action, tells_failure}
 use Rattle.cluster_types.specs.Journals.{is_on, last_sign, moment_of}
 use Rattle.cluster_types.specs.Steps.{Transition, Begins, StepsOn, begins, takes, is_silent, Applies, action_at, ended, answer_events, numbers_in_flight, in_flight_by_number, is_number_in_flight, journal, numbers, silent_code}
 use Rattle.run_safety.proofs.Each.{Each, none, more, each_filter, each_flat, found}
@@ -34,7 +34,7 @@ module _ (t : Transition) (since : List Event) where
     nothing : Adds []
     begun : (k : ℕ) (a : Action) → Begins t since k a → Adds (Begin k a ∷ [])
     over : (k : ℕ) (a : Action) (o : Outcome) (m : ℕ) → Flies (k, a) → isnt_gone o ≡ true → Adds (Ended k a o m ∷ [])
-    reported : (r n interval code m : ℕ) → tells_news t.cluster (journal t since) (in_flight_by_number t since) n r interval code ≡ true
+    reported : (r n interval code m : ℕ) → tells_failure t.cluster (journal t since) (in_flight_by_number t since) n r interval code ≡ true
         → Adds (Ended 0 (monitor_action t.cluster r n interval) (Code code) m ∷ [])
     lost : (n : ℕ) → is_joined_sign (last_sign n (journal t since)) ≡ true → Adds (gone_with n ++ Lost n ∷ [])
     up : (n : ℕ) → Adds (Up n ∷ [])
@@ -66,7 +66,7 @@ module _ (t : Transition) (since : List Event) where
   answer_adds (answer.Up n) h = up n
   answer_adds (answer.Quorum now) h = quorum now
   answer_adds (answer.Wait seconds) h = wait seconds
-  answer_adds (answer.Report n r interval code) h = reported r n interval code (moment_of (journal t since)) (later _ (tells_news t.cluster (journal t since) (in_flight_by_number t since) n r interval code) h)
+  answer_adds (answer.Report n r interval code) h = reported r n interval code (moment_of (journal t since)) (later _ (tells_failure t.cluster (journal t since) (in_flight_by_number t since) n r interval code) h)
 
   pub step_adds : (whole : Bool) (events : List Event) (rest left : Option (List Answer)) → StepsOn t whole since rest events left → Adds t since events
   step_adds whole _ rest _ (begins _ k a allowed) = begun k a allowed

@@ -11,7 +11,7 @@ use Rattle.cluster_types.specs.declared.leaf.Op.TheVariants as op
 use Rattle.cluster_types.specs.declared.leaf.Role.TheVariants as role
 use Rattle.cluster_types.specs.declared.states.CellState.{CellState}
 use Rattle.cluster_types.specs.declared.states.CellState.TheVariants as cell
-use Rattle.cluster_types.specs.CellStates.{is_left_open}
+use Rattle.cluster_types.specs.CellStates.{is_unclear}
 use Rattle.cluster_types.specs.Cells.{is_sent_to, is_same_cell}
 use Rattle.cluster_types.specs.Journals.{Orderly}
 use Rattle.cluster_types.specs.May.{may_be_running}
@@ -63,7 +63,7 @@ module _ (t : Transition) (targets : Targets) (carries : Carries t targets) (sou
     not_sent : (y : Action) → IsNeeded t targets y → is_sent_to r n y ≡ false
     not_sent y needs = false_from_ne_true (is_sent_to r n y) (λ e. none (migrates_here t targets carries r n y needs e))
 
-    sure_of_start : IsNeeded t targets (Operation op.Start r n 0 role.Started) → is_left_open t.cluster r n (journal t since) ≡ false
+    sure_of_start : IsNeeded t targets (Operation op.Start r n 0 role.Started) → is_unclear t.cluster r n (journal t since) ≡ false
     sure_of_start needed =
         let number : HasNumber t (Operation op.Start r n 0 role.Started) = carries.numbered (Operation op.Start r n 0 role.Started) needed in
         turned t (IsSure t.cluster r n) number.number (Operation op.Start r n 0 role.Started) number.is
@@ -72,7 +72,7 @@ module _ (t : Transition) (targets : Targets) (carries : Carries t targets) (sou
         (λ es j m y o is ok sure. inr (sure_done t.cluster r n es j m y o ok (stays_here y (carries.needed j y is)) sure))
         (λ es s sure. sure_waited t.cluster r n es s sure) since calm (done t targets carries sound orderly since calm all (Operation op.Start r n 0 role.Started) number)
 
-    sure_of_staying : is_left_open t.cluster r n t.planned_at ≡ false → is_left_open t.cluster r n (journal t since) ≡ false
+    sure_of_staying : is_unclear t.cluster r n t.planned_at ≡ false → is_unclear t.cluster r n (journal t since) ≡ false
     sure_of_staying was =
         unturned t (IsSure t.cluster r n) (λ es j y is sure. sure_begun t.cluster r n es j y (not_sent y (carries.needed j y is)) sure)
         (λ es j m y o is ok sure. sure_done t.cluster r n es j m y o ok (stays_here y (carries.needed j y is)) sure)
@@ -87,7 +87,7 @@ module _ (t : Transition) (targets : Targets) (carries : Carries t targets) (sou
       of _ (sent s from m g) e = let f : ⊥ = cc in f
       of _ (taken_in s from m g) e = let f : ⊥ = cc in f
 
-  sure_of_taking : MigratesHere t targets carries r n → is_left_open t.cluster r n (journal t since) ≡ false
+  sure_of_taking : MigratesHere t targets carries r n → is_unclear t.cluster r n (journal t since) ≡ false
   sure_of_taking here =
       turned t (IsSure t.cluster r n) number.number (MigrateFrom r here.from n) number.is
       (λ es o m ok. sure_turned t.cluster r n es number.number m (MigrateFrom r here.from n) o ok (own_cell r n) refl refl)
@@ -110,20 +110,20 @@ module _ (t : Transition) (targets : Targets) (carries : Carries t targets) (sou
       begins es j y is sure false e = inr (sure_begun t.cluster r n es j y e sure)
       begins es j y is sure true e = inl (carries.precede j number.number y (MigrateFrom r here.from n) is number.is (leads y e))
 
-  pub sure_there : is_left_open t.cluster r n (journal t since) ≡ false
+  pub sure_there : is_unclear t.cluster r n (journal t since) ≡ false
   sure_there = by (how t targets carries sound r n h l online somewhere)
     where
-      was : may_be_running t.cluster r n t.planned_at ≡ true → (s : CellState) → state t r n ≡ s → runs s ≡ true → is_left_open t.cluster r n t.planned_at ≡ false
+      was : may_be_running t.cluster r n t.planned_at ≡ true → (s : CellState) → state t r n ≡ s → runs s ≡ true → is_unclear t.cluster r n t.planned_at ≡ false
       was on cell.On e g = (says_of t.cluster r n t.planned_at cell.On e).5
       was on cell.Promoted e g =
-          other_fails (may_be_running t.cluster r n t.planned_at) (is_left_open t.cluster r n t.planned_at) on (says_of t.cluster r n t.planned_at cell.Promoted e).3
+          other_fails (may_be_running t.cluster r n t.planned_at) (is_unclear t.cluster r n t.planned_at) on (says_of t.cluster r n t.planned_at cell.Promoted e).3
       was on cell.Off e g = cc
       was on cell.Away e g = cc
       was on cell.Unprobed e g = cc
       was on cell.Blocked e g = cc
       was on cell.Failed e g = cc
 
-      by : How t targets carries sound r n h l online somewhere → is_left_open t.cluster r n (journal t since) ≡ false
+      by : How t targets carries sound r n h l online somewhere → is_unclear t.cluster r n (journal t since) ≡ false
       by (by_start needed) = sure_of_start (not_started needed) needed
       by (by_taking here) = sure_of_taking here
       by (stays on probed never (inl pinned)) = refuse (is_pinned t.cluster t.planned_at r) free pinned

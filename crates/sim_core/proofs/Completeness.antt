@@ -5,7 +5,7 @@ use Rattle.sim_core.specs.declared.status.Status.{Status}
 use Rattle.sim_core.specs.declared.status.Status.TheVariants.{Done, NoMemory, Usage, ReadFault, WriteFault, Refused, Unexpected, TooLarge, NotLawful}
 use Rattle.sim_core.specs.declared.words.Command.{Command}
 use Rattle.sim_core.specs.declared.words.Command.TheVariants.{Check, Scores, Why, Graph, Survive, Audit, Replay, Gen, World, Help, Version}
-use Rattle.sim_core.specs.Answers.{WordAnswers, InputHasRoom, IsCompleteAnswer, IsStatusDue, IsWritten, SaysBy, SaysOf, InputTaken, Written, told_input}
+use Rattle.sim_core.specs.Answers.{WordAnswers, InputHasRoom, IsCompleteAnswer, IsStatusDue, IsWritten, SaysBy, SaysOf, SaysOfInput, SaysOfSink, told_input}
 use Rattle.sim_core.specs.LiveAnswers.{SaysLive, HasWrittenReplay}
 use Rattle.input_reading.specs.Reading.{most_bytes}
 use Rattle.sim_core.specs.Replay.{IsReplayOutput}
@@ -21,9 +21,9 @@ module _ (Due : Status → List ℕ → Type 0) (input : List ℕ) (left before 
 
   -- it isn't too large
   abbrev NotLarge : Intake → Type 0
-  NotLarge kind = InputTaken kind input left TooLarge → ⊥
+  NotLarge kind = SaysOfInput kind input left TooLarge → ⊥
 
-  is_due : (kind : Intake) → NotLarge kind → (status : Status) → InputTaken kind input left status → Written Due before after status
+  is_due : (kind : Intake) → NotLarge kind → (status : Status) → SaysOfInput kind input left status → SaysOfSink Due before after status
       → status ≢ NoMemory → status ≢ ReadFault → status ≢ WriteFault → IsStatusDue Due status
   is_due kind not_large Done taken written memory read write = written_due Done written
   is_due kind not_large Refused taken written memory read write = written_due Refused written

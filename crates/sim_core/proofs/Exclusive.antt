@@ -11,7 +11,7 @@ use Rattle.run_safety.proofs.Beginnings.{begins_whole}
 use Rattle.run_safety.proofs.OneEnd.{whole_one, whole_or_cut}
 use Rattle.run_safety.proofs.PlansAreOne.{plans_one}
 use Rattle.sim_core.specs.declared.verdict.Clause.{Clause}
-use Rattle.sim_core.specs.LawfulRuns.{IsCutRunOfLines, IsFaultyClause, IsLawfulRun, IsOther, IsUndue, IsWholeRunOfLines, answers_of_lines, other, undue}
+use Rattle.sim_core.specs.LawfulRuns.{IsCutRunOfLines, IsFaultyPlace, IsLawfulRun, IsOther, IsUndue, IsWholeRunOfLines, answers_of_lines, other, undue}
 
 -- what stands at a place of the front of a list
 pub in_front : {X : Type 0} (xs more : List X) (i : ℕ) (x : X) → slice_get xs i ≡ Some x → slice_get (xs ++ more) i ≡ Some x
@@ -38,6 +38,6 @@ module _ (c : Cluster) (journal : Journal) (lines : List RunLine) (lawful : IsLa
     by (inr cut) =
         whole_or_cut c journal.promotions true (plans_one c journal.promotions) journal.events (Some (answers_of_lines lines)) tt lawful.left u.left lines u.printed cut.0 cut.1 lawful.whole cut.2
 
-  pub not_faulty : (place : ℕ) (kind : Clause) → IsFaultyClause c journal lines place kind → ⊥
+  pub not_faulty : (place : ℕ) (kind : Clause) → IsFaultyPlace c journal lines place kind → ⊥
   not_faulty place kind (other _ o) = not_other place kind o
   not_faulty place _ (undue u) = not_undue place u

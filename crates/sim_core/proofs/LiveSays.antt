@@ -121,7 +121,7 @@ module _ (input : List ℕ) (head : Head) (reading : Reading) (from left before 
   reached end.Refused r at_end = record { text = r.text; due = inr (text_of_run end.Refused r.text r.gets); added = r.added }
   reached end.TooLarge r at_end = record { text = r.text; due = inr (text_of_run end.TooLarge r.text r.gets); added = r.added }
   reached end.ReadFault r at_end = behind_head (behind_the_head run.IsBrokenOff r)
-  reached end.WriteFault r at_end = of_run (behind_the_head run.IsCutOff r)
+  reached end.WriteFault r at_end = of_run (behind_the_head run.HasSinkFailed r)
   reached end.NoMemory r at_end = between_two (behind_the_head run.HasNoMemory r)
 
 pub run_says : (before_all from left before after : Option (List ℕ)) (head : Head) (reading : Reading) (how : LiveEnd) → IfSome before_all (λ input. IsBehind input head reading from)

@@ -8,7 +8,7 @@ use Rattle.input_reading.specs.declared.run.text.RunTextLine.{RunTextLine}
 use Rattle.input_reading.specs.Causes.{refusal_text}
 use Rattle.input_reading.proofs.OneReading.{not_both_of_a_trace, one_trace, one_trace_fault}
 use Rattle.sim_core.specs.declared.verdict.Clause.{Clause}
-use Rattle.sim_core.specs.LawfulRuns.{IsFaultyClause, IsFaultyLine, IsLawfulRun, line_number_at, said}
+use Rattle.sim_core.specs.LawfulRuns.{IsFaultyPlace, IsFaultyLine, IsLawfulRun, line_number_at, said}
 use Rattle.sim_core.specs.declared.status.Status.{Status}
 use Rattle.sim_core.specs.declared.status.Status.TheVariants.{Done, NotLawful, Refused}
 use Rattle.sim_core.specs.Audit.{IsAuditOutput, IsLawfulTrace, IsTraceRefusal, IsUnlawfulTrace, unlawful_text}
@@ -17,7 +17,7 @@ use Rattle.sim_core.proofs.OneFault.{one_fault}
 -- a run with a line that isn't the due one isn't lawful
 abbrev pub AreExcluded : Type 0
 AreExcluded = (c : Cluster) (journal : Journal) (lines : List RunLine) (place : ℕ) (kind : Clause)
-    → IsFaultyClause c journal lines place kind → ¬ IsLawfulRun c journal lines
+    → IsFaultyPlace c journal lines place kind → ¬ IsLawfulRun c journal lines
 
 module _ (excluded : AreExcluded) (input : List ℕ) where
   lawful_or_not : (text more : List ℕ) → IsLawfulTrace input text → ¬ IsUnlawfulTrace input more

@@ -15,7 +15,7 @@ use Rattle.run_safety.proofs.OneEnd.{cut_one, whole_one, whole_or_cut}
 use Rattle.run_safety.proofs.OneRun.{one_way}
 use Rattle.run_safety.proofs.PlansAreOne.{plans_one}
 use Rattle.sim_core.specs.declared.verdict.Clause.{Clause}
-use Rattle.sim_core.specs.LawfulRuns.{IsCutRunOfLines, IsFaultyClause, IsOther, IsPrintedSoFar, IsUndue, IsWholeRunOfLines, answers_of_lines, clause_of, other, undue}
+use Rattle.sim_core.specs.LawfulRuns.{IsCutRunOfLines, IsFaultyPlace, IsOther, IsPrintedSoFar, IsUndue, IsWholeRunOfLines, answers_of_lines, clause_of, other, undue}
 use Rattle.sim_core.proofs.Exclusive.{in_front}
 
 -- what stands before a place at which something stands
@@ -117,7 +117,7 @@ module _ (c : Cluster) (journal : Journal) (lines : List RunLine) where
         let same : place ≡ q = grind (arith, nat_tests) in
         (same, same_kind q kind sort (subst (λ n. IsOther c journal lines n kind) same o) p)
 
-  pub one_fault : (place q : ℕ) (kind sort : Clause) → IsFaultyClause c journal lines place kind → IsFaultyClause c journal lines q sort → (place ≡ q) × (kind ≡ sort)
+  pub one_fault : (place q : ℕ) (kind sort : Clause) → IsFaultyPlace c journal lines place kind → IsFaultyPlace c journal lines q sort → (place ≡ q) × (kind ≡ sort)
   one_fault place q kind sort (other _ o) (other _ p) = one_other place q kind sort o p
   one_fault place q kind _ (other _ o) (undue v) = absurd (other_or_undue place q kind o v)
   one_fault place q _ sort (undue u) (other _ p) = absurd (other_or_undue q place sort p u)

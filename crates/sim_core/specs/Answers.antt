@@ -14,34 +14,34 @@ pub record IsReadWhole (input : List ℕ) (left : Option (List ℕ)) : Type 0 wh
   pub at_end : left ≡ Some []
 
 -- what each status says of an input that is read to its end, and of what is left of it
-abbrev pub WholeTaken : List ℕ → Option (List ℕ) → Status → Type 0
-WholeTaken input left Done = IsReadWhole input left
-WholeTaken input left NoMemory = Unit {0}
-WholeTaken input left Usage = IsReadWhole input left
-WholeTaken input left ReadFault = Unit {0}
-WholeTaken input left WriteFault = IsReadWhole input left
-WholeTaken input left Refused = IsReadWhole input left
-WholeTaken input left Unexpected = IsReadWhole input left
-WholeTaken input left TooLarge = most_bytes < length input
-WholeTaken input left NotLawful = IsReadWhole input left
+abbrev pub SaysOfWholeInput : List ℕ → Option (List ℕ) → Status → Type 0
+SaysOfWholeInput input left Done = IsReadWhole input left
+SaysOfWholeInput input left NoMemory = Unit {0}
+SaysOfWholeInput input left Usage = IsReadWhole input left
+SaysOfWholeInput input left ReadFault = Unit {0}
+SaysOfWholeInput input left WriteFault = IsReadWhole input left
+SaysOfWholeInput input left Refused = IsReadWhole input left
+SaysOfWholeInput input left Unexpected = IsReadWhole input left
+SaysOfWholeInput input left TooLarge = most_bytes < length input
+SaysOfWholeInput input left NotLawful = IsReadWhole input left
 
 -- with a word that reads nothing no read fails, and no input is too large
-abbrev pub NothingTaken : Status → Type 0
-NothingTaken Done = Unit {0}
-NothingTaken NoMemory = Unit {0}
-NothingTaken Usage = Unit {0}
-NothingTaken ReadFault = ⊥
-NothingTaken WriteFault = Unit {0}
-NothingTaken Refused = Unit {0}
-NothingTaken Unexpected = Unit {0}
-NothingTaken TooLarge = ⊥
-NothingTaken NotLawful = Unit {0}
+abbrev pub SaysOfNoInput : Status → Type 0
+SaysOfNoInput Done = Unit {0}
+SaysOfNoInput NoMemory = Unit {0}
+SaysOfNoInput Usage = Unit {0}
+SaysOfNoInput ReadFault = ⊥
+SaysOfNoInput WriteFault = Unit {0}
+SaysOfNoInput Refused = Unit {0}
+SaysOfNoInput Unexpected = Unit {0}
+SaysOfNoInput TooLarge = ⊥
+SaysOfNoInput NotLawful = Unit {0}
 
 -- what a status says of the input, and of what is left of it. Of a live word this is said together with what is written
-abbrev pub InputTaken : Intake → List ℕ → Option (List ℕ) → Status → Type 0
-InputTaken nothing input left status = NothingTaken status
-InputTaken whole input left status = WholeTaken input left status
-InputTaken live input left status = Unit {0}
+abbrev pub SaysOfInput : Intake → List ℕ → Option (List ℕ) → Status → Type 0
+SaysOfInput nothing input left status = SaysOfNoInput status
+SaysOfInput whole input left status = SaysOfWholeInput input left status
+SaysOfInput live input left status = Unit {0}
 
 -- where the input gets these statuses with these texts
 module _ (Due : Status → List ℕ → Type 0) where
@@ -64,23 +64,23 @@ module _ (Due : Status → List ℕ → Type 0) where
     pub due : Due status text
 
   -- what a status says of what the sink holds before and after
-  abbrev pub Written : Option (List ℕ) → Option (List ℕ) → Status → Type 0
-  Written before after Done = IsWritten Done before after
-  Written before after NoMemory = (status : Status) (text : List ℕ) → Due status text → AddsPrefix text before after
-  Written before after Usage = ⊥
-  Written before after ReadFault = after ≡ before
-  Written before after WriteFault = IsCutShort before after
-  Written before after Refused = IsWritten Refused before after
-  Written before after Unexpected = IsWritten Unexpected before after
-  Written before after TooLarge = after ≡ before
-  Written before after NotLawful = IsWritten NotLawful before after
+  abbrev pub SaysOfSink : Option (List ℕ) → Option (List ℕ) → Status → Type 0
+  SaysOfSink before after Done = IsWritten Done before after
+  SaysOfSink before after NoMemory = (status : Status) (text : List ℕ) → Due status text → AddsPrefix text before after
+  SaysOfSink before after Usage = ⊥
+  SaysOfSink before after ReadFault = after ≡ before
+  SaysOfSink before after WriteFault = IsCutShort before after
+  SaysOfSink before after Refused = IsWritten Refused before after
+  SaysOfSink before after Unexpected = IsWritten Unexpected before after
+  SaysOfSink before after TooLarge = after ≡ before
+  SaysOfSink before after NotLawful = IsWritten NotLawful before after
 
 -- for a word with this intake, which gives an input a status and a text
 module _ (kind : Intake) (Output : List ℕ → Status → List ℕ → Type 0) where
   -- what the answer says of an input, of what is left of it, and of what the sink holds before and after
   pub record SaysOf (input : List ℕ) (left before after : Option (List ℕ)) (status : Status) : Type 0 where
-    pub taken : InputTaken kind input left status
-    pub written : Written (Output input) before after status
+    pub taken : SaysOfInput kind input left status
+    pub written : SaysOfSink (Output input) before after status
 
   -- some input that has room gets this status
   pub record SomeInput (status : Status) : Type 0 where

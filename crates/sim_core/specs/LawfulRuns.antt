@@ -79,9 +79,9 @@ module _ (c : Cluster) (journal : Journal) (lines : List RunLine) where
     pub ends : (IsWholeRunOfLines printed left × (place < length lines)) ⊎ ((given : Answer) × (behind : Option (List Answer)) × IsCutRunOfLines printed left given behind)
 
   -- the first line that isn't the due one stands at this place, and this kind is due there
-  pub data IsFaultyClause (place : ℕ) : Clause → Type 0 where
-    other : (kind : Clause) → IsOther place kind → IsFaultyClause place kind
-    undue : IsUndue place → IsFaultyClause place clause.Answer
+  pub data IsFaultyPlace (place : ℕ) : Clause → Type 0 where
+    other : (kind : Clause) → IsOther place kind → IsFaultyPlace place kind
+    undue : IsUndue place → IsFaultyPlace place clause.Answer
 
 -- the number of the line at a place of a written run; behind its last line, this one
 abbrev pub line_number_at : List RunTextLine → ℕ → ℕ → ℕ
@@ -90,7 +90,7 @@ line_number_at lines place after = option_map_or (λ (l : RunTextLine). l.line) 
 -- the first line at fault, if one is, has this number
 pub record IsFaultyLine (c : Cluster) (journal : Journal) (lines : List RunTextLine) (after number : ℕ) (kind : Clause) : Type 0 where
   pub place : ℕ
-  pub fault : IsFaultyClause c journal (said lines) place kind
+  pub fault : IsFaultyPlace c journal (said lines) place kind
   pub number_is : number ≡ line_number_at lines place after
 
 -- what a verdict says

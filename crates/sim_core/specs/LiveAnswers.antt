@@ -7,7 +7,7 @@ use Rattle.cluster_types.specs.declared.cluster.Cluster.{Cluster}
 use Rattle.cluster_types.specs.declared.journal.Journal.{Journal}
 use Rattle.live_run.specs.SourceFollowed.{bytes_of}
 use Rattle.live_run.specs.Heads as heads
-use Rattle.live_run.specs.RunReached.{GivesNoAnswer, HasNoMemory, IsBrokenOff, IsCutOff, IsTakenWhole}
+use Rattle.live_run.specs.RunReached.{GivesNoAnswer, HasNoMemory, IsBrokenOff, HasSinkFailed, HasWholeLinesTaken}
 use Rattle.input_reading.specs.declared.input.cause.InputCause.{InputCause}
 use Rattle.input_reading.specs.declared.input.reading.Head.{Head}
 use Rattle.sim_core.specs.declared.status.Status.{Status}
@@ -18,7 +18,7 @@ use Rattle.sim_core.specs.Replay.{IsHeadRead, IsHeadFault, IsReplayOutput}
 
 -- reading stopped amid the head: behind each of the lines that were taken whole the head goes on, and what is held gives no answer yet
 pub record IsAmidHead (input : List ℕ) (left : Option (List ℕ)) : Type 0 where
-  pub whole : IsTakenWhole input left
+  pub whole : HasWholeLinesTaken input left
   pub goes_on : heads.AllGoOnBehind most_bytes longest_line 1 whole.lines
   pub no_answer : GivesNoAnswer (most_bytes - length (bytes_of whole.lines)) longest_line whole.held
 
@@ -63,7 +63,7 @@ module _ (input : List ℕ) (left before after : Option (List ℕ)) where
   -- the sink failed
   pub data HasWriteFault : Type 0 where
     of_head : IsCutInRefusal → HasWriteFault
-    of_run : IsBehindHead IsCutOff → HasWriteFault
+    of_run : IsBehindHead HasSinkFailed → HasWriteFault
 
   -- memory ran out before anything was written, or between two transitions
   pub data RanOutOfMemory : Type 0 where

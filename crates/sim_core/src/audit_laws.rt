@@ -10,7 +10,7 @@ ghost use Rattle.cluster_types.specs.Runs.{IsWholeRun};
 ghost use Rattle.sim_core.specs.declared.verdict.Clause.{Clause as ClauseOf};
 ghost use Rattle.input_reading.specs.declared.input.reading.Head.{Head as HeadOf};
 ghost use Rattle.sim_core.specs.Audit.{IsAuditOutput, lawful_text};
-ghost use Rattle.sim_core.specs.LawfulRuns.{IsFaultyClause, IsLawfulRun};
+ghost use Rattle.sim_core.specs.LawfulRuns.{IsFaultyPlace, IsLawfulRun};
 ghost use Rattle.sim_core.specs.Replay.{IsReplayOutput};
 ghost use Rattle.sim_core.specs.TraceSection.{IsHeadBefore, with_result_section, with_trace_section};
 ghost use Rattle.sim_core.specs.declared.status.Status.TheVariants.{Done};
@@ -18,13 +18,13 @@ ghost use Rattle.sim_core.specs.declared.status.Status.TheVariants.{Done};
 /// A run with a line that isn't the due one isn't lawful.
 pub fn faulty_runs_are_not_lawful()
     ensures { (c : ClusterOf) (journal : JournalOf) (lines : List LineOf) (place : ℕ) (kind : ClauseOf)
-        → IsFaultyClause c journal lines place kind → ¬ IsLawfulRun c journal lines }
+        → IsFaultyPlace c journal lines place kind → ¬ IsLawfulRun c journal lines }
 {}
 
 /// A run has at most one first line that isn't the due one.
 pub fn faulty_lines_are_unique()
     ensures { (c : ClusterOf) (journal : JournalOf) (lines : List LineOf) (one other : ℕ) (kind sort : ClauseOf)
-        → IsFaultyClause c journal lines one kind → IsFaultyClause c journal lines other sort → (one ≡ other) × (kind ≡ sort) }
+        → IsFaultyPlace c journal lines one kind → IsFaultyPlace c journal lines other sort → (one ≡ other) × (kind ≡ sort) }
 {}
 
 /// The lines of a whole run are lawful, over answers that are told, and over those of a simulated cluster.

@@ -17,9 +17,9 @@ use Rattle.cluster_types.specs.declared.journal.Action.{Action}
 use Rattle.cluster_types.specs.declared.journal.Event.{Event}
 use Rattle.cluster_types.specs.AnswersThatApply.{applies_after, is_joined_sign, is_number_of, is_offline_state}
 use Rattle.cluster_types.specs.May.{may_be_running}
-use Rattle.cluster_types.specs.Precedence.{CellOf, op_cell}
+use Rattle.cluster_types.specs.Precedence.{LeafOnNode, op_cell}
 use Rattle.cluster_types.specs.Fields.{copies}
-use Rattle.cluster_types.specs.Safety.{AddsNoCopy, NoSecondCopy, count_of_others}
+use Rattle.cluster_types.specs.Safety.{HasRoomForCopy, NoSecondCopy, count_of_others}
 use Rattle.cluster_types.specs.Steps.{Transition, journal}
 use Rattle.simulated.specs.declared.turn.Fate.{Fate}
 use Rattle.simulated.specs.declared.turn.Fate.TheVariants as fate
@@ -48,7 +48,7 @@ module _ (t : Transition) (before : List Event) (w : World) (within : IsWorldWit
     on true e g = within.runs r m e (rw e at g)
     on false e g = let none = rw e at g in cc
 
-  pub fewer : (at : CellOf) → AddsNoCopy t before at
+  pub fewer : (at : LeafOnNode) → HasRoomForCopy t before at
       → count_of_others t.cluster at.node (λ m. is_there (found_at t.cluster w.cells at.leaf m)) < copies t.cluster at.leaf
   fewer at adds =
       let less = count_more (λ m. not (m == at.node) && is_there (found_at t.cluster w.cells at.leaf m)) (λ m. not (m == at.node) && may_be_running t.cluster at.leaf m (journal t before))
@@ -59,7 +59,7 @@ module _ (t : Transition) (before : List Event) (w : World) (within : IsWorldWit
 pub none_second : (number : ℕ) (first : List Event) (t : Transition) (events : List Event) → NoSecondCopy t events → NoSecondCopyReally number first t events
 none_second number first t events safe before after k a at = on (op_cell op.Start a) ((safe before after k a at).0)
   where
-    on : (o : Option CellOf) → IfSome o (AddsNoCopy t before) → IfSome o (ReallyAddsNoCopy number first t before)
+    on : (o : Option LeafOnNode) → IfSome o (HasRoomForCopy t before) → IfSome o (ReallyAddsNoCopy number first t before)
     on None h = tt
     on (Some cell) h = λ w life. fewer t before w (always t.cluster number first (journal t before) w life) cell h
 

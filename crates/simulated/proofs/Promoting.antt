@@ -17,13 +17,13 @@ use Rattle.cluster_types.specs.May.{closes_promoted, opens_promoted}
 use Rattle.cluster_types.specs.Outcomes.{is_code_among}
 use Rattle.simulated.specs.declared.real.Real.{Real}
 use Rattle.simulated.specs.declared.real.Real.TheVariants as real
-use Rattle.simulated.specs.RealWorlds.{Cells, after_op, demoted, done, found_at, given_up, is_cell, is_really_promoted, is_there, looked, rising_from, true_code, undone, with_changed_cell, without_node}
+use Rattle.simulated.specs.RealWorlds.{Cells, after_op, demoted, done, found_at, given_up, is_cell, is_really_promoted, is_there, code_of_look, rising_from, true_code, undone, with_changed_cell, without_node}
 use Rattle.simulated.proofs.Quiet.{IsQuiet, failed, late, quiet_demotes}
 use Rattle.simulated.proofs.Running.{found_there}
 
 -- one that is promoted isn't found otherwise
 shows_promoted : (x : Real) → is_really_promoted x ≡ true
-    → (is_code_among (0 ∷ 190 ∷ 7 ∷ 5 ∷ []) (Code (looked x)) ≡ false) × (is_code_among (0 ∷ 190 ∷ 7 ∷ []) (Code (looked x)) ≡ false)
+    → (is_code_among (0 ∷ 190 ∷ 7 ∷ 5 ∷ []) (Code (code_of_look x)) ≡ false) × (is_code_among (0 ∷ 190 ∷ 7 ∷ []) (Code (code_of_look x)) ≡ false)
 shows_promoted real.Off h = cc
 shows_promoted real.Rising h = cc
 shows_promoted real.Started h = cc
@@ -89,21 +89,21 @@ module _ (c : Cluster) (cells : Cells) (r n k m : ℕ) (cell : is_cell c r n ≡
 
   -- a probe or a monitor that looks
   look_stays : (leaf node : ℕ) (e : Event) → (is_same_cell r n leaf node ≡ false → closes_promoted c r n e ≡ false)
-      → (is_same_cell r n leaf node ≡ true → (is_code_among (0 ∷ 190 ∷ 7 ∷ 5 ∷ []) (Code (looked (found_at c cells leaf node))) ≡ false)
-      × (is_code_among (0 ∷ 190 ∷ 7 ∷ []) (Code (looked (found_at c cells leaf node))) ≡ false) → closes_promoted c r n e ≡ false) → StaysPromoted (cells r n) e
+      → (is_same_cell r n leaf node ≡ true → (is_code_among (0 ∷ 190 ∷ 7 ∷ 5 ∷ []) (Code (code_of_look (found_at c cells leaf node))) ≡ false)
+      × (is_code_among (0 ∷ 190 ∷ 7 ∷ []) (Code (code_of_look (found_at c cells leaf node))) ≡ false) → closes_promoted c r n e ≡ false) → StaysPromoted (cells r n) e
   look_stays leaf node e other here h = on (is_same_cell r n leaf node) refl where
     on : (t : Bool) → is_same_cell r n leaf node ≡ t
         → ((is_promotable c r ≡ true) × (opens_promoted c r n e ≡ true)) ⊎ ((is_really_promoted (cells r n) ≡ true) × (closes_promoted c r n e ≡ false))
     on false t = inr (h, other t)
     on true t = inr (h, here t (rw (found_there c cells r n leaf node cell t) (shows_promoted (cells r n) h)))
 
-  probe_stays : (leaf node : ℕ) → StaysPromoted (cells r n) (Ended k (Probe leaf node) (Code (looked (found_at c cells leaf node))) m)
-  probe_stays leaf node = look_stays leaf node (Ended k (Probe leaf node) (Code (looked (found_at c cells leaf node))) m) (λ t. rw t refl) (λ t q. rw (q.0, and-false (leaf == r && node == n)) refl)
+  probe_stays : (leaf node : ℕ) → StaysPromoted (cells r n) (Ended k (Probe leaf node) (Code (code_of_look (found_at c cells leaf node))) m)
+  probe_stays leaf node = look_stays leaf node (Ended k (Probe leaf node) (Code (code_of_look (found_at c cells leaf node))) m) (λ t. rw t refl) (λ t q. rw (q.0, and-false (leaf == r && node == n)) refl)
 
   monitor_stays : (leaf node interval : ℕ) (role : Role)
-      → StaysPromoted (cells r n) (Ended k (Operation Monitor leaf node interval role) (Code (looked (found_at c cells leaf node))) m)
+      → StaysPromoted (cells r n) (Ended k (Operation Monitor leaf node interval role) (Code (code_of_look (found_at c cells leaf node))) m)
   monitor_stays leaf node interval role =
-      look_stays leaf node (Ended k (Operation Monitor leaf node interval role) (Code (looked (found_at c cells leaf node))) m) (λ t. rw t refl) (λ t q. rw (q.1, and-false (leaf == r && node == n)) refl)
+      look_stays leaf node (Ended k (Operation Monitor leaf node interval role) (Code (code_of_look (found_at c cells leaf node))) m) (λ t. rw t refl) (λ t q. rw (q.1, and-false (leaf == r && node == n)) refl)
 
   unchanged : (leaf node : ℕ) (change : Real → Real) (e : Event) → ((x : Real) → is_really_promoted (change x) ≡ is_really_promoted x) → StaysPromoted (cells r n) e
       → StaysPromoted (with_changed_cell leaf node change cells r n) e

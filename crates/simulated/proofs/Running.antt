@@ -16,7 +16,7 @@ use Rattle.cluster_types.specs.May.{closes, opens}
 use Rattle.cluster_types.specs.Outcomes.{is_code_among}
 use Rattle.simulated.specs.declared.real.Real.{Real}
 use Rattle.simulated.specs.declared.real.Real.TheVariants as real
-use Rattle.simulated.specs.RealWorlds.{Cells, after_op, done, found_at, given_up, is_cell, is_there, looked, rising_from, true_code, undone, with_changed_cell, without_node}
+use Rattle.simulated.specs.RealWorlds.{Cells, after_op, done, found_at, given_up, is_cell, is_there, code_of_look, rising_from, true_code, undone, with_changed_cell, without_node}
 use Rattle.simulated.proofs.Quiet.{IsQuiet, failed, late, quiet_closes}
 
 -- what is found in a cell of the cluster is what is there
@@ -28,7 +28,7 @@ found_there c cells r n leaf node cell same =
     rw (here, there) (rw cell refl)
 
 -- one that runs isn't found stopped
-pub shows_running : (x : Real) → is_there x ≡ true → (is_code_among (7 ∷ 5 ∷ []) (Code (looked x)) ≡ false) × (is_code_among (7 ∷ []) (Code (looked x)) ≡ false)
+pub shows_running : (x : Real) → is_there x ≡ true → (is_code_among (7 ∷ 5 ∷ []) (Code (code_of_look x)) ≡ false) × (is_code_among (7 ∷ []) (Code (code_of_look x)) ≡ false)
 shows_running real.Off h = cc
 shows_running real.Rising h = (refl, refl)
 shows_running real.Started h = (refl, refl)
@@ -90,20 +90,20 @@ module _ (c : Cluster) (cells : Cells) (r n k m : ℕ) (cell : is_cell c r n ≡
 
   -- a probe or a monitor that looks
   look_stays : (leaf node : ℕ) (e : Event) → (is_same_cell r n leaf node ≡ false → closes c r n e ≡ false)
-      → (is_same_cell r n leaf node ≡ true → (is_code_among (7 ∷ 5 ∷ []) (Code (looked (found_at c cells leaf node))) ≡ false)
-      × (is_code_among (7 ∷ []) (Code (looked (found_at c cells leaf node))) ≡ false) → closes c r n e ≡ false) → Stays (cells r n) e
+      → (is_same_cell r n leaf node ≡ true → (is_code_among (7 ∷ 5 ∷ []) (Code (code_of_look (found_at c cells leaf node))) ≡ false)
+      × (is_code_among (7 ∷ []) (Code (code_of_look (found_at c cells leaf node))) ≡ false) → closes c r n e ≡ false) → Stays (cells r n) e
   look_stays leaf node e other here h = on (is_same_cell r n leaf node) refl where
     on : (t : Bool) → is_same_cell r n leaf node ≡ t → (opens c r n e ≡ true) ⊎ ((is_there (cells r n) ≡ true) × (closes c r n e ≡ false))
     on false t = inr (h, other t)
     on true t = inr (h, here t (rw (found_there c cells r n leaf node cell t) (shows_running (cells r n) h)))
 
-  probe_stays : (leaf node : ℕ) → Stays (cells r n) (Ended k (Probe leaf node) (Code (looked (found_at c cells leaf node))) m)
-  probe_stays leaf node = look_stays leaf node (Ended k (Probe leaf node) (Code (looked (found_at c cells leaf node))) m) (λ t. rw t refl) (λ t q. rw (q.0, and-false (leaf == r && node == n)) refl)
+  probe_stays : (leaf node : ℕ) → Stays (cells r n) (Ended k (Probe leaf node) (Code (code_of_look (found_at c cells leaf node))) m)
+  probe_stays leaf node = look_stays leaf node (Ended k (Probe leaf node) (Code (code_of_look (found_at c cells leaf node))) m) (λ t. rw t refl) (λ t q. rw (q.0, and-false (leaf == r && node == n)) refl)
 
   monitor_stays : (leaf node interval : ℕ) (role : Role)
-      → Stays (cells r n) (Ended k (Operation Monitor leaf node interval role) (Code (looked (found_at c cells leaf node))) m)
+      → Stays (cells r n) (Ended k (Operation Monitor leaf node interval role) (Code (code_of_look (found_at c cells leaf node))) m)
   monitor_stays leaf node interval role =
-      look_stays leaf node (Ended k (Operation Monitor leaf node interval role) (Code (looked (found_at c cells leaf node))) m) (λ t. rw t refl) (λ t q. rw (q.1, and-false (leaf == r && node == n)) refl)
+      look_stays leaf node (Ended k (Operation Monitor leaf node interval role) (Code (code_of_look (found_at c cells leaf node))) m) (λ t. rw t refl) (λ t q. rw (q.1, and-false (leaf == r && node == n)) refl)
 
   unchanged : (leaf node : ℕ) (e : Event) → Stays (cells r n) e → Stays (with_changed_cell leaf node (λ x. x) cells r n) e
   unchanged leaf node e s = on (is_same_cell r n leaf node) where

@@ -10,7 +10,7 @@ use Rattle.cluster_types.specs.Journals.{AreInFlightByNumber, last_sign}
 use Rattle.cluster_types.specs.declared.leaf.Op.TheVariants as op
 use Rattle.cluster_types.specs.Fields.{copies}
 use Rattle.cluster_types.specs.May.{may_be_running, may_be_promoted}
-use Rattle.cluster_types.specs.Precedence.{CellOf, op_cell}
+use Rattle.cluster_types.specs.Precedence.{LeafOnNode, op_cell}
 use Rattle.cluster_types.specs.Safety.{AtEachBegin, count_of_others}
 use Rattle.cluster_types.specs.Steps.{Transition, journal}
 use Rattle.simulated.specs.declared.turn.Fate.{Fate}
@@ -43,7 +43,7 @@ pub record IsWorldWithin (c : Cluster) (es : List Event) (w : World) : Type 0 wh
   pub few : w.faults ≤ most_faults
 
 -- where a start of a leaf begins on a node, the leaf really runs on fewer other nodes than it has copies. Of a plain resource there is none
-abbrev pub ReallyAddsNoCopy : ℕ → List Event → Transition → List Event → CellOf → Type 0
+abbrev pub ReallyAddsNoCopy : ℕ → List Event → Transition → List Event → LeafOnNode → Type 0
 ReallyAddsNoCopy number first t before at =
     (w : World) → Lives t.cluster number first (journal t before) w
     → count_of_others t.cluster at.node (λ m. is_there (found_at t.cluster w.cells at.leaf m)) < copies t.cluster at.leaf

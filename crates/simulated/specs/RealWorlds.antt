@@ -111,11 +111,11 @@ demoted real.Started = real.Started
 demoted real.Promoted = real.Started
 
 -- the exit code of an agent that looks
-abbrev pub looked : Real → ℕ
-looked real.Off = not_running
-looked real.Rising = success
-looked real.Started = success
-looked real.Promoted = running_promoted
+abbrev pub code_of_look : Real → ℕ
+code_of_look real.Off = not_running
+code_of_look real.Rising = success
+code_of_look real.Started = success
+code_of_look real.Promoted = running_promoted
 
 module _ (c : Cluster) where
   -- what an operation that is done makes of its cell
@@ -171,8 +171,8 @@ module _ (c : Cluster) where
 
   -- the exit code with which an action ends that does what it is for
   abbrev pub true_code : Action → Cells → ℕ
-  true_code (Probe leaf node) cells = looked (found_at c cells leaf node)
-  true_code (Operation Monitor leaf node interval role) cells = looked (found_at c cells leaf node)
+  true_code (Probe leaf node) cells = code_of_look (found_at c cells leaf node)
+  true_code (Operation Monitor leaf node interval role) cells = code_of_look (found_at c cells leaf node)
   true_code (Operation Start leaf node interval role) cells = success
   true_code (Operation Stop leaf node interval role) cells = success
   true_code (Operation Promote leaf node interval role) cells = success

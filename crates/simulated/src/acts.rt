@@ -129,7 +129,7 @@ pub fn undo(cluster: &Cluster, action: Action, cells: &mut Vec<Real>)
 
 /// The exit code of an agent that looks.
 fn looked(real: Real) -> u8
-    ensures { result ≡ worlds.looked real }
+    ensures { result ≡ worlds.code_of_look real }
 {
     match real {
         Real::Off => NOT_RUNNING,

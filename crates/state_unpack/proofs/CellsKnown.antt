@@ -16,7 +16,7 @@ use Rattle.cluster_types.specs.CellStates.{last_outcome, cell_state, is_monitor_
 use Rattle.cluster_types.specs.Failures.{failures_in_force, counted, is_forgotten, has_code, fatal_codes, has_somewhere, is_fail_stopped, asks_for_stop, ended_at}
 use Rattle.cluster_types.specs.Fields.{failure_timeout, monitors}
 use Rattle.cluster_types.specs.Journals.{NodeSign, joined, went_down, was_lost, was_fenced, moment_of, last_sign}
-use Rattle.cluster_types.specs.NodeStates.{node_state, state_by, is_online_state, is_online_in, is_online, is_to_blame}
+use Rattle.cluster_types.specs.NodeStates.{node_state, state_by, is_online_state, is_online_in, is_online, has_failure_to_fence}
 use Rattle.cluster_types.specs.UnpackedStates.{as_bits, cell_at}
 use Rattle.cluster_types.specs.Valid.{IsValid}
 use Rattle.state_unpack.specs.Tally.{tally_of}
@@ -92,11 +92,11 @@ module _ (c : Cluster) (es : List Event) (cells : List Facts) (keeps : KeepsFact
   stops-are = map-same _ _ (length c.leaves) (λ r h. any-same _ _ (length c.nodes) (λ n k. stop-there r n h k))
 
   -- the states of the nodes
-  pub blamed-is : (n : ℕ) → n < length c.nodes → is_blamed c n cells ≡ is_to_blame c n es
+  pub blamed-is : (n : ℕ) → n < length c.nodes → is_blamed c n cells ≡ has_failure_to_fence c n es
   blamed-is n k = any-same _ _ (length c.leaves) (λ r h. rw (keeps.told r n h k) refl)
 
   module _ (signs : List (Option Sign)) (shows : ShowsSigns (length c.nodes) es signs) where
-    pub by-sign : (n : ℕ) (blamed : Bool) (found : Option (Option Sign)) (last : Option NodeSign) → blamed ≡ is_to_blame c n es → option_map (option_map as_sign) found ≡ Some last
+    pub by-sign : (n : ℕ) (blamed : Bool) (found : Option (Option Sign)) (last : Option NodeSign) → blamed ≡ has_failure_to_fence c n es → option_map (option_map as_sign) found ≡ Some last
         → state_by_sign c.properties.fencing blamed (unwrap_or found None) ≡ state_by c n es last
     by-sign n blamed None last b e = cc
     by-sign n blamed (Some None) last b e = let is : last ≡ None = cc in rw is refl

@@ -5,7 +5,7 @@ ghost use Rattle.cluster_types.specs.CellStates.{asks_for_block};
 ghost use Rattle.cluster_types.specs.Failures as failures;
 ghost use Rattle.cluster_types.specs.NodeStates.{asks_for_fence};
 
-use crate::outcomes::{effective_fail, is_among, is_bad, is_ignored};
+use crate::outcomes::{effective_on_fail, is_among, is_bad, is_ignored};
 use cluster_types::{Action, Cluster, Event, LeafId, NodeId, OnFail, Op};
 
 /// Whether the event is an outcome of the cell that isn't ignored.
@@ -66,7 +66,7 @@ pub fn wants(what: OnFail, cluster: &Cluster, event: Event) -> bool
     ensures block { what ≡ OnFail.Block → result ≡ asks_for_block cluster.now event }
 {
     match event {
-        Event::Ended { action, .. } => effective_fail(cluster, action) == what,
+        Event::Ended { action, .. } => effective_on_fail(cluster, action) == what,
         _ => false,
     }
 }

@@ -64,8 +64,8 @@ pub fn is_bad(action: Action, outcome: Outcome) -> bool
     }
 }
 
-fn monitor_fail(monitors: &[Monitor], interval_ms: u32) -> OnFail
-    ensures { result ≡ outcomes.monitor_fail monitors.now interval_ms }
+fn on_fail_of_monitor(monitors: &[Monitor], interval_ms: u32) -> OnFail
+    ensures { result ≡ outcomes.on_fail_of_monitor monitors.now interval_ms }
 {
     for monitor in monitors {
         if monitor.interval_ms == interval_ms {
@@ -83,12 +83,12 @@ fn op_fail_of(leaf: &Leaf, op: Op, interval_ms: u32) -> OnFail
         Op::Stop => leaf.stop_fail,
         Op::Promote => leaf.promote_fail,
         Op::Demote => leaf.demote_fail,
-        Op::Monitor => monitor_fail(leaf.monitors.as_slice(), interval_ms),
+        Op::Monitor => on_fail_of_monitor(leaf.monitors.as_slice(), interval_ms),
     }
 }
 
-fn op_fail(cluster: &Cluster, leaf: LeafId, op: Op, interval_ms: u32) -> OnFail
-    ensures { result ≡ outcomes.op_fail cluster.now leaf op interval_ms }
+fn on_fail_of_op(cluster: &Cluster, leaf: LeafId, op: Op, interval_ms: u32) -> OnFail
+    ensures { result ≡ outcomes.on_fail_of_op cluster.now leaf op interval_ms }
 {
     match cluster.leaves.as_slice().get(leaf as usize) {
         Some(leaf) => op_fail_of(leaf, op, interval_ms),
@@ -96,8 +96,8 @@ fn op_fail(cluster: &Cluster, leaf: LeafId, op: Op, interval_ms: u32) -> OnFail
     }
 }
 
-fn fail_of(cluster: &Cluster, action: Action) -> OnFail
-    ensures { result ≡ outcomes.action_fail cluster.now action }
+fn on_fail_of_action(cluster: &Cluster, action: Action) -> OnFail
+    ensures { result ≡ outcomes.on_fail_of_action cluster.now action }
 {
     match action {
         Action::Operation {
@@ -105,7 +105,7 @@ fn fail_of(cluster: &Cluster, action: Action) -> OnFail
             leaf,
             interval_ms,
             ..
-        } => op_fail(cluster, leaf, op, interval_ms),
+        } => on_fail_of_op(cluster, leaf, op, interval_ms),
         _ => OnFail::Restart,
     }
 }
@@ -113,10 +113,10 @@ fn fail_of(cluster: &Cluster, action: Action) -> OnFail
 /// What the failure of the action leads to. A failure that wants its node fenced blocks the resource where the cluster doesn't fence; that of a
 /// probe, of a migration and of a monitor without a statement of its interval restarts it (Pacemaker Explained, "on-fail"; these three are rules
 /// of this project).
-pub fn effective_fail(cluster: &Cluster, action: Action) -> OnFail
-    ensures { result ≡ outcomes.effective_fail cluster.now action }
+pub fn effective_on_fail(cluster: &Cluster, action: Action) -> OnFail
+    ensures { result ≡ outcomes.effective_on_fail cluster.now action }
 {
-    match fail_of(cluster, action) {
+    match on_fail_of_action(cluster, action) {
         OnFail::Fence if !cluster.properties.fencing => OnFail::Block,
         other => other,
     }
@@ -139,5 +139,7 @@ fn is_monitor(action: Action) -> bool
 pub fn is_ignored(cluster: &Cluster, action: Action, outcome: Outcome) -> bool
     ensures { result ≡ outcomes.is_ignored cluster.now action outcome }
 {
-    is_monitor(action) && is_bad(action, outcome) && fail_of(cluster, action) == OnFail::Ignore
+    is_monitor(action)
+        && is_bad(action, outcome)
+        && on_fail_of_action(cluster, action) == OnFail::Ignore
 }

@@ -9,7 +9,7 @@ use Rattle.cluster_types.specs.Numbers.{is_earlier, action_place}
 use Rattle.cluster_types.specs.Plans.{IsPlan}
 use Rattle.cluster_types.specs.Valid.{IsValid}
 use Rattle.cluster_types.proofs.NumberLaws.{not_both}
-use Rattle.planner.specs.PlannedActions.{ArePlanned}
+use Rattle.planner.specs.PlannedActions.{AreOfSomePlan}
 use Rattle.planner.proofs.Few.{few_edges}
 
 -- in the order of their numbers no action comes twice
@@ -23,7 +23,7 @@ each_once c actions in_order i j d l m same =
 pub few_planned : (c : Cluster) (es : List Event) (promotions : List Promotion) (placed : Placed) (actions : List Action) → IsValid c → IsPlan c es promotions placed actions
     → length actions < 2 ^ 32
 few_planned c es promotions placed actions valid plan =
-    let planned : ArePlanned c actions = record {
+    let planned : AreOfSomePlan c actions = record {
       events = es;
       promotions = promotions;
       placed = placed;

@@ -14,7 +14,7 @@ use Rattle.cluster_types.specs.declared.leaf.Op.TheVariants.{Start, Stop, Promot
 use Rattle.cluster_types.specs.declared.leaf.Role.TheVariants as role
 use Rattle.cluster_types.specs.declared.run.RunLine.{RunLine}
 use Rattle.cluster_types.specs.declared.run.RunLine.TheVariants as line
-use Rattle.cluster_types.specs.AnswersThatApply.{is_joined_sign, is_number_of, is_offline_state, is_quiet_cell, monitor_action, most_from_outside, tells_news}
+use Rattle.cluster_types.specs.AnswersThatApply.{is_joined_sign, is_number_of, is_offline_state, is_quiet_cell, monitor_action, most_from_outside, tells_failure}
 use Rattle.cluster_types.specs.Journals.{last_sign, moment_of}
 use Rattle.cluster_types.specs.May.{may_be_running}
 use Rattle.cluster_types.specs.NodeStates.{is_online, node_state}
@@ -108,7 +108,7 @@ module _ (t : Transition) (since : List Event) (few : length t.actions < 2 ^ 32)
       (later (nat_lt (count_from_outside t since) most_from_outside) (nat_lt (moment_of (journal t since) + seconds) (2 ^ 40)) h) in
       omega (arith, low)
   answer_fits (answer.Report n r interval code) h fits =
-      let news = later (nat_lt (count_from_outside t since) most_from_outside) (tells_news t.cluster (journal t since) (in_flight_by_number t since) n r interval code) h in
+      let news = later (nat_lt (count_from_outside t since) most_from_outside) (tells_failure t.cluster (journal t since) (in_flight_by_number t since) n r interval code) h in
       let front = first_three (nat_lt n (length t.cluster.nodes)) (nat_lt r (length t.cluster.leaves)) (nat_lt 0 interval) (is_online t.cluster n (journal t since))
       (may_be_running t.cluster r n (journal t since)) (is_bad (monitor_action t.cluster r n interval) (Code code))
       (not (is_ignored t.cluster (monitor_action t.cluster r n interval) (Code code))) (is_quiet_cell t.cluster (journal t since) (in_flight_by_number t since) r n) news in (

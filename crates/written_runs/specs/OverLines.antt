@@ -17,7 +17,7 @@ use Rattle.cluster_types.specs.Choice.{is_separation}
 use Rattle.cluster_types.specs.Fields.{copies, promoted_copies}
 use Rattle.cluster_types.specs.Journals.{AreInFlightByNumber}
 use Rattle.cluster_types.specs.May.{may_be_promoted, may_be_running}
-use Rattle.cluster_types.specs.Precedence.{CellOf, gives_role, op_cell}
+use Rattle.cluster_types.specs.Precedence.{LeafOnNode, gives_role, op_cell}
 use Rattle.cluster_types.specs.Runs.{RunStanding, due, Runs, journal_at}
 use Rattle.cluster_types.specs.Safety.{count_of_others, may_have_role}
 
@@ -43,11 +43,11 @@ module _ (c : Cluster) (first : List Event) where
     pub holds : Holds journal
 
   -- the leaf may run on fewer other nodes than it has copies. Of a plain resource: on none
-  abbrev pub MayRunOnFewOthers : CellOf → List Event → Type 0
+  abbrev pub MayRunOnFewOthers : LeafOnNode → List Event → Type 0
   MayRunOnFewOthers at es = count_of_others c at.node (λ m. may_be_running c at.leaf m es) < copies c at.leaf
 
   -- it may be promoted on fewer other nodes than it has promoted copies
-  abbrev pub MayBePromotedOnFewOthers : CellOf → List Event → Type 0
+  abbrev pub MayBePromotedOnFewOthers : LeafOnNode → List Event → Type 0
   MayBePromotedOnFewOthers at es = count_of_others c at.node (λ m. may_be_promoted c at.leaf m es) < promoted_copies c at.leaf
 
   -- where the action gives the one leaf its role on a node, the other may not hold its own there

@@ -2,7 +2,7 @@
 use Rattle.std.specs.Prelude.{◌≡◌, ◌≢◌, ℕ, ◌+◌, ◌-◌, ◌≤◌, ◌<◌, Bool, true, false, Option, Some, None, List, [], ◌++◌, length, take, drop, IfSome}
 use Rattle.cluster_io.specs.Streams.{TakesBytes}
 use Rattle.cluster_io.specs.NextLine.{reader_answer, holds_line, IsUndecided}
-use Rattle.cluster_io.specs.Readings.{Reading, Leaves, CameBy}
+use Rattle.cluster_io.specs.Readings.{Reading, ReaderIsLeft, CameBy}
 use Rattle.cluster_io.specs.declared.line_scan.Found.{Found}
 use Rattle.cluster_io.specs.declared.line_scan.Found.TheVariants as found
 use Rattle.cluster_io.specs.declared.line_step.LineStep.{LineStep}
@@ -46,7 +46,7 @@ pub record Settles (step : LineStep) (old new : Reading) (before after : Option 
   pub remembers : old.ended ≡ true → ended ≡ true
   pub exact : step ≢ Failed → (rest : List ℕ) → (ended ≡ true → rest ≡ []) → step ≡ reader_answer old.room old.longest (old.held ++ rest)
   pub undecided : step ≡ Failed → IsUndecided old.room old.longest old.held
-  pub leaves : Leaves step old new ended
+  pub leaves : ReaderIsLeft step old new ended
 
 -- what one turn did
 abbrev pub Turned : Option LineStep → Reading → Reading → Option (List ℕ) → Option (List ℕ) → Type 0

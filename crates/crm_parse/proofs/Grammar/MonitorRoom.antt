@@ -15,7 +15,7 @@ use Rattle.crm_parse.specs.declared.pair.Operation.{Operation}
 use Rattle.crm_parse.specs.declared.place.OpName.TheVariants as op
 use Rattle.crm_parse.specs.declared.place.Place.{Place}
 use Rattle.crm_parse.specs.Keys.{is_monitor_name, when}
-use Rattle.crm_parse.specs.Monitors.{AreFew, recurring, recurring_in}
+use Rattle.crm_parse.specs.Monitors.{MayStandTogether, recurring, recurring_in}
 use Rattle.crm_parse.specs.Operations.{has_monitor_room, interval_in, interval_of, is_off, op_name, recurs, says_no, value_of}
 use Rattle.crm_parse.specs.Texts.{after, cut_at}
 use Rattle.crm_parse.specs.Values.{time_of}
@@ -97,12 +97,12 @@ none-equal : (xs : List ℕ) (i : ℕ) → ((k d : ℕ) → k < length xs → sl
 none-equal [] i h = refl
 none-equal (x ∷ xs) i h = or_from _ _ (ne_eqb x i (h zero 0 (omega arith))) (none-equal xs i (λ k d l. h (suc k) d (omega (arith, l))))
 
-last-apart : (xs : List ℕ) (i : ℕ) → AreFew (xs ++ i ∷ []) → (k d : ℕ) → k < length xs → slice_index_or xs k d ≢ i
+last-apart : (xs : List ℕ) (i : ℕ) → MayStandTogether (xs ++ i ∷ []) → (k d : ℕ) → k < length xs → slice_index_or xs k d ≢ i
 last-apart xs i h k d l same =
     h.apart k (length xs) d l (omega (arith, length-append xs (i ∷ [])))
     (in-front xs (i ∷ []) k d l ∙ (same ∙ sym (get_or-append_seam xs i [] d)))
 
-room-case : (ops : List Operation) (i : ℕ) (none : Bool) → (i == 0) ≡ none → (0 < i → AreFew (recurring ops ++ i ∷ []))
+room-case : (ops : List Operation) (i : ℕ) (none : Bool) → (i == 0) ≡ none → (0 < i → MayStandTogether (recurring ops ++ i ∷ []))
     → cond none (Ok tt) (cond (nat_le 8 (length (filter recurs ops))) (Err Unsupported)
     (when (not (list_any (λ o. recurs o && (interval_of o.pairs == i)) ops)) RepeatedKey)) ≡ Ok tt
 room-case ops i true z h = refl
@@ -114,7 +114,7 @@ room-case ops i false z h =
     let new : list_any (λ o. recurs o && (interval_of o.pairs == i)) ops ≡ false = as-any i ops ∙ none-equal (recurring ops) i (last-apart (recurring ops) i few) in
     rw (less, new) refl
 
-pub room : (ops : List Operation) (i : ℕ) → (0 < i → AreFew (recurring ops ++ i ∷ [])) → has_monitor_room ops i ≡ Ok tt
+pub room : (ops : List Operation) (i : ℕ) → (0 < i → MayStandTogether (recurring ops ++ i ∷ [])) → has_monitor_room ops i ≡ Ok tt
 room ops i h = room-case ops i (i == 0) refl h
 
 -- the words of the pairs of a recurring operation find room
@@ -158,7 +158,7 @@ no_room-needed ops [] = tt
 no_room-needed ops (word ∷ words) = (refl, no_room-needed ops words)
 
 on-case : (ops : List Operation) (p : Place) (name : List ℕ) (pairs : List Kv) (on : Bool) → is_monitor_name (op_name name) && not (is_off (pair_words pairs)) ≡ on
-    → AllByRecursion IsCut pairs → EachTwo (MayStandBoth p) pairs → AreFew (recurring (ops ++ record { name = name; pairs = pairs } ∷ []))
+    → AllByRecursion IsCut pairs → EachTwo (MayStandBoth p) pairs → MayStandTogether (recurring (ops ++ record { name = name; pairs = pairs } ∷ []))
     → AllByRecursion (Roomy ops on) (pair_words pairs)
 on-case ops p name pairs false e cut two few = no_room-needed ops (pair_words pairs)
 on-case ops p name pairs true e cut two few =
@@ -168,10 +168,10 @@ on-case ops p name pairs true e cut two few =
     let has_room : has_monitor_room ops (interval_of pairs) ≡ Ok tt = room ops (interval_of pairs) (λ above.
     let recurs_is : recurs made ≡ true = and_from _ _ (and_from _ _ (monitor-is name monitor) not_off) (lt-ltb 0 (interval_of pairs) above) in
     let one : recurring_in made ≡ interval_of pairs ∷ [] = rw recurs_is refl in
-    subst AreFew (flat_map-append recurring_in ops (made ∷ []) ∙ ap (λ xs. recurring ops ++ xs) (append-nil (recurring_in made) ∙ one)) few) in
+    subst MayStandTogether (flat_map-append recurring_in ops (made ∷ []) ∙ ap (λ xs. recurring ops ++ xs) (append-nil (recurring_in made) ∙ one)) few) in
     words-room ops (interval_of pairs) pairs cut (map-all _ _ pairs (λ kv h key. interval-is pairs kv (h key)) (firsts p pairs two)) has_room
 
 pub rooms : (ops : List Operation) (p : Place) (name : List ℕ) (pairs : List Kv) → AllByRecursion IsCut pairs → EachTwo (MayStandBoth p) pairs
-    → AreFew (recurring (ops ++ record { name = name; pairs = pairs } ∷ []))
+    → MayStandTogether (recurring (ops ++ record { name = name; pairs = pairs } ∷ []))
     → AllByRecursion (Roomy ops (is_monitor_name (op_name name) && not (is_off (pair_words pairs)))) (pair_words pairs)
 rooms ops p name pairs cut two few = on-case ops p name pairs (is_monitor_name (op_name name) && not (is_off (pair_words pairs))) refl cut two few

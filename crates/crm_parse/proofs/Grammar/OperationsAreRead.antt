@@ -11,7 +11,7 @@ use Rattle.crm_parse.specs.declared.pair.Operation.{Operation}
 use Rattle.crm_parse.specs.declared.place.Place.{Place}
 use Rattle.crm_parse.specs.declared.place.Place.TheVariants as place
 use Rattle.crm_parse.specs.Keys.{is_monitor_name}
-use Rattle.crm_parse.specs.Monitors.{AreFew, recurring}
+use Rattle.crm_parse.specs.Monitors.{MayStandTogether, recurring}
 use Rattle.crm_parse.specs.Operations.{is_off, is_single, new_name, op_name, op_pairs, operation_of, with_op_pair, with_op_pairs}
 use Rattle.crm_parse.specs.Pairs.{with_pair}
 use Rattle.crm_parse.specs.Reading.{Words}
@@ -37,7 +37,7 @@ op_pairs-read ops on p before ws ks (one_word word kv words kvs s more) two room
     (op_pairs-read ops on p (before ++ kv ∷ []) words kvs more next room.1 ∙ ap Ok (append_assoc before (kv ∷ []) kvs))
 
 all-read : (ops : List Operation) (name : List ℕ) (pairs : List Kv) → let p = place.Operation (op_name name) in EachSays (PairSays p) (pair_words pairs) pairs → pairs ≢ []
-    → EachTwo (MayStandBoth p) pairs → AreFew (recurring (ops ++ record { name = name; pairs = pairs } ∷ [])) → op_pairs ops (op_name name) (pair_words pairs) ≡ Ok pairs
+    → EachTwo (MayStandBoth p) pairs → MayStandTogether (recurring (ops ++ record { name = name; pairs = pairs } ∷ [])) → op_pairs ops (op_name name) (pair_words pairs) ≡ Ok pairs
 all-read ops name [] said some two few = absurd (some refl)
 all-read ops name (kv ∷ kvs) said some two few =
     let p = place.Operation (op_name name) in
@@ -76,7 +76,7 @@ says-case ws s o (an_operation name words kvs prim named no_rule each some two) 
       two = two;
     })
 
-operation-read : (ops : List Operation) (o : Operation) → SaysOp o → AllByRecursion (λ one. MayBothBeWritten one o) ops → AreFew (recurring (ops ++ o ∷ []))
+operation-read : (ops : List Operation) (o : Operation) → SaysOp o → AllByRecursion (λ one. MayBothBeWritten one o) ops → MayStandTogether (recurring (ops ++ o ∷ []))
     → operation_of ops (op_words o) ≡ Ok o
 unfolding operation_of
 operation-read ops o h once few =
@@ -89,7 +89,7 @@ ops-read done before words o h said fits =
     let says = says-case words (operation o) o said refl in
     let all : operations_in (done ++ operation o ∷ []) ≡ before.ops ++ o ∷ [] = flat_map-append operation_if done (operation o ∷ []) ∙ ap (λ os. os ++ o ∷ []) (sym h.ops) in
     let once = two-middle MayBothBeWritten before.ops o [] (subst (EachTwo MayBothBeWritten) all fits.singles) in
-    let few = subst (λ os. AreFew (recurring os)) all fits.monitors in
+    let few = subst (λ os. MayStandTogether (recurring os)) all fits.monitors in
     let read = operation-read before.ops o says once few in
     record {
       after = record before { ops = before.ops ++ o ∷ [] };

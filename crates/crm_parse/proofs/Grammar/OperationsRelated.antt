@@ -16,7 +16,7 @@ use Rattle.crm_parse.specs.declared.place.Place.{Place}
 use Rattle.crm_parse.specs.declared.place.Place.TheVariants as place
 use Rattle.crm_parse.specs.declared.section.Sections.{Sections}
 use Rattle.crm_parse.specs.Keys.{is_monitor_name}
-use Rattle.crm_parse.specs.Monitors.{AreFew, recurring}
+use Rattle.crm_parse.specs.Monitors.{MayStandTogether, recurring}
 use Rattle.crm_parse.specs.Operations.{has_monitor_room, has_op, interval_in, is_off, is_single, new_name, op_name, op_pairs, operation_of, with_op_pair, with_op_pairs}
 use Rattle.crm_parse.specs.Pairs.{kv_of, repeats, with_pair}
 use Rattle.crm_parse.specs.Reading.{Words, name_of}
@@ -172,7 +172,7 @@ op-stands done before words op h e stood once =
       in_turn = two-push (MayFollow owner.Primitive) done (operation op) h.in_turn (all-any _ done (λ one. tt));
       keys = λ w p at. subst (EachTwo (MayStandBoth p)) (sym (no_pairs w done op)) (h.keys w p at);
       singles = subst (EachTwo MayBothBeWritten) (sym (one_operation done op)) (two-push MayBothBeWritten (operations_in done) op h.singles (subst (AllByRecursion (λ one. MayBothBeWritten one op)) h.ops once));
-      monitors = subst (λ os. AreFew (recurring os)) ops (few-kept (before.ops ++ op ∷ []) kept);
+      monitors = subst (λ os. MayStandTogether (recurring os)) ops (few-kept (before.ops ++ op ∷ []) kept);
     }
 
 -- what is read as an operation says it

@@ -11,7 +11,7 @@ use Rattle.crm_parse.specs.declared.owner.SectionWord.TheVariants.{Attributes, P
 use Rattle.crm_parse.specs.declared.pair.Kv.{Kv}
 use Rattle.crm_parse.specs.declared.place.Place.{Place}
 use Rattle.crm_parse.specs.declared.section.Sections.{Sections}
-use Rattle.crm_parse.specs.Monitors.{AreFew, recurring}
+use Rattle.crm_parse.specs.Monitors.{MayStandTogether, recurring}
 use Rattle.crm_parse.specs.Reading.{Words}
 use Rattle.crm_parse.specs.Sections.{allows_section, has_no_pairs, may_follow, no_sections, place_of, takes_name}
 use Rattle.crm_parse.proofs.OperationWords.{KeptOps}
@@ -33,7 +33,7 @@ pub record Stands (statement : Owner) (done : List Section) (read : Sections) : 
   pub in_turn : EachTwo (MayFollow statement) done
   pub keys : (section : SectionWord) (place : Place) → section_place statement section ≡ Some place → EachTwo (MayStandBoth place) (pairs_in section done)
   pub singles : EachTwo MayBothBeWritten (operations_in done)
-  pub monitors : AreFew (recurring (operations_in done))
+  pub monitors : MayStandTogether (recurring (operations_in done))
 
 put-pairs : (w v : SectionWord) (kvs : List Kv) (s : Sections) → takes_name (Some v) ≡ false
     → pairs_of v (put w kvs s) ≡ cond (is (section_text w) (section_text v)) kvs (pairs_of v s)
@@ -129,7 +129,7 @@ more-stands statement done before w after kvs h stood turn a two = record {
       (λ same. subst (λ p. EachTwo (MayStandBoth p) after) (ap (place_of statement) same ∙ sym at.same) two)
       (subst (EachTwo (MayStandBoth place)) (sym (h.pairs v place e)) (h.keys v place e)));
   singles = subst (EachTwo MayBothBeWritten) (sym (no_operation done w kvs)) h.singles;
-  monitors = subst (λ ops. AreFew (recurring ops)) (sym (no_operation done w kvs)) h.monitors;
+  monitors = subst (λ ops. MayStandTogether (recurring ops)) (sym (no_operation done w kvs)) h.monitors;
 }
 
 -- before any section

@@ -11,7 +11,7 @@ use Rattle.crm_parse.specs.declared.pair.Kv.{Kv}
 use Rattle.crm_parse.specs.declared.pair.Operation.{Operation}
 use Rattle.crm_parse.specs.declared.place.Place.{Place}
 use Rattle.crm_parse.specs.declared.section.Sections.{Sections}
-use Rattle.crm_parse.specs.Monitors.{AreFew, recurring, recurring_in}
+use Rattle.crm_parse.specs.Monitors.{MayStandTogether, recurring, recurring_in}
 use Rattle.crm_parse.specs.Pairs.{with_section}
 use Rattle.crm_parse.specs.Reading.{Words}
 use Rattle.crm_parse.specs.Sections.{Part, allows_section, cut_into_sections, no_sections, place_of, sections_at, takes_name, with_part, with_parts, with_words}
@@ -49,7 +49,7 @@ in-front (x ∷ xs) ys zero d l = refl
 in-front (x ∷ xs) ys (suc i) d l = in-front xs ys i d (omega (arith, l))
 
 -- the first of few are few
-few-front : (xs ys : List ℕ) → AreFew (xs ++ ys) → AreFew xs
+few-front : (xs ys : List ℕ) → MayStandTogether (xs ++ ys) → MayStandTogether xs
 few-front xs ys h = record {
   few = omega (arith, length-append xs ys, h.few);
   above = above-front xs ys h.above;
@@ -82,7 +82,7 @@ module _ (statement : Owner) where
     pub in_turn : EachTwo (MayFollow statement) sections
     pub keys : (section : SectionWord) (place : Place) → section_place statement section ≡ Some place → EachTwo (MayStandBoth place) (pairs_in section sections)
     pub singles : EachTwo MayBothBeWritten (operations_in sections)
-    pub monitors : AreFew (recurring (operations_in sections))
+    pub monitors : MayStandTogether (recurring (operations_in sections))
 
   fits-front : (one more : List Section) → Fits (one ++ more) → Fits one
   fits-front one more h = record {
@@ -91,7 +91,7 @@ module _ (statement : Owner) where
         (subst (EachTwo (MayStandBoth place)) (flat_map-append (pairs_if w) one more) (h.keys w place e));
     singles = two-front MayBothBeWritten (operations_in one) (operations_in more) (subst (EachTwo MayBothBeWritten) (flat_map-append operation_if one more) h.singles);
     monitors = few-front (recurring (operations_in one)) (recurring (operations_in more))
-        (subst AreFew (ap recurring (flat_map-append operation_if one more) ∙ flat_map-append recurring_in (operations_in one) (operations_in more)) h.monitors);
+        (subst MayStandTogether (ap recurring (flat_map-append operation_if one more) ∙ flat_map-append recurring_in (operations_in one) (operations_in more)) h.monitors);
   }
 
   pub record PartIsRead (done : List Section) (before : Sections) (s : Section) : Type 0 where

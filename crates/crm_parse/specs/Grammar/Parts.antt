@@ -12,7 +12,7 @@ use Rattle.crm_parse.specs.declared.pair.Operation.{Operation}
 use Rattle.crm_parse.specs.declared.place.Place.{Place}
 use Rattle.crm_parse.specs.declared.place.Place.TheVariants as place
 use Rattle.crm_parse.specs.Keys.{accepts}
-use Rattle.crm_parse.specs.Monitors.{AreFew, recurring}
+use Rattle.crm_parse.specs.Monitors.{MayStandTogether, recurring}
 use Rattle.crm_parse.specs.Operations.{is_single, op_name}
 use Rattle.crm_parse.specs.Pairs.{is_same_key}
 use Rattle.crm_parse.specs.Reading.{Words}
@@ -103,4 +103,4 @@ pub record SectionsSay (statement : Owner) (words : Words) (sections : List Sect
   pub in_turn : EachTwo (MayFollow statement) sections
   pub keys : (section : SectionWord) (place : Place) → section_place statement section ≡ Some place → EachTwo (MayStandBoth place) (pairs_in section sections)
   pub singles : EachTwo MayBothBeWritten (operations_in sections)
-  pub monitors : AreFew (recurring (operations_in sections))
+  pub monitors : MayStandTogether (recurring (operations_in sections))

@@ -23,7 +23,7 @@ use Rattle.graph_exec.specs.declared.run.planning.KeptPlan.{KeptPlan}
 use Rattle.graph_exec.specs.declared.run.planning.Planned.{Planned}
 use Rattle.graph_exec.specs.declared.run.stop.ReplayStop.{ReplayStop}
 use Rattle.graph_exec.specs.declared.run.stop.ReplayStop.TheVariants as stop
-use Rattle.graph_exec.specs.Replays.{Setting, Sight, replay_heard, replay_word}
+use Rattle.graph_exec.specs.Replays.{Setting, AnswersView, replay_heard, replay_word}
 use Rattle.graph_exec.specs.declared.transition.watcher.Heard.{Heard}
 use Rattle.graph_exec.specs.declared.transition.watcher.Heard.TheVariants as heard
 
@@ -46,7 +46,7 @@ pub record IsSaid (s : Setting) (from at : RunStanding) (lines : List RunLine) (
   pub runs : (more : List Answer) → Runs s.cluster s.promotions false from (Some (answers ++ more)) lines at (Some more)
   pub taken : TakesAnswers rest answers left
 
-module _ (Follows : List RunLine → Type 0) (s : Setting) (from : RunStanding) (old new : Sight) where
+module _ (Follows : List RunLine → Type 0) (s : Setting) (from : RunStanding) (old new : AnswersView) where
   -- the run went on to here, and its lines were told. While a steady source isn't over, each of its answers was said
   pub record HasComeTo (at : RunStanding) : Type 0 where
     pub lines : List RunLine
@@ -61,7 +61,7 @@ module _ (Follows : List RunLine → Type 0) (s : Setting) (from : RunStanding) 
     pub came : HasComeTo (at journal.events)
 
 -- how such a part ends the run. No transition behind that of this number has begun
-module _ (Follows : List RunLine → Type 0) (s : Setting) (from : RunStanding) (old new : Sight) (number : ℕ) where
+module _ (Follows : List RunLine → Type 0) (s : Setting) (from : RunStanding) (old new : AnswersView) (number : ℕ) where
   pub record EndsWhole (journal : Journal) : Type 0 where
     pub last : RunStanding
     pub lines : List RunLine

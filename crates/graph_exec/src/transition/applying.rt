@@ -91,10 +91,10 @@ impl<'c> Course<'c> {
         matches!(known.node_state(node), NodeState::Online) && known.may(leaf, node)
     }
 
-    /// Whether a failed monitor of the cell says something new: the leaf may run on the node, which is online, the code is
+    /// Whether a failed monitor of the cell may be told: the leaf may run on the node, which is online, the code is
     /// bad and not ignored, and nothing of the cell is in flight.
-    fn tells_news(&self, node: NodeId, leaf: LeafId, interval_ms: u32, code: u8) -> bool
-        ensures { result ≡ answering.tells_news self.now.cluster (journal (transition_in self.now) self.now.since) (in_flight_by_number (transition_in self.now) self.now.since) node leaf interval_ms code }
+    fn tells_failure(&self, node: NodeId, leaf: LeafId, interval_ms: u32, code: u8) -> bool
+        ensures { result ≡ answering.tells_failure self.now.cluster (journal (transition_in self.now) self.now.since) (in_flight_by_number (transition_in self.now) self.now.since) node leaf interval_ms code }
     {
         let action = self.monitor_action(leaf, node, interval_ms);
         let outcome = Outcome::Code(code);
@@ -123,7 +123,7 @@ impl<'c> Course<'c> {
                 leaf,
                 interval_ms,
                 code,
-            } => self.may_be_told() && self.tells_news(node, leaf, interval_ms, code),
+            } => self.may_be_told() && self.tells_failure(node, leaf, interval_ms, code),
         }
     }
 }

@@ -11,7 +11,7 @@ ghost use Rattle.graph_exec.specs.Flights.{pairs_in_flight};
 ghost use Rattle.graph_exec.specs.declared.transition.outcomes.Next.{Next as NextOf};
 ghost use Rattle.graph_exec.specs.declared.transition.outcomes.Next.TheVariants as says;
 ghost use Rattle.graph_exec.specs.Counts.{CountsAnswer, RoseByOne};
-ghost use Rattle.graph_exec.specs.SourceDuties.{AgreesAfter, GivesNext, IsFitting, IsOverBy};
+ghost use Rattle.graph_exec.specs.SourceDuties.{AgreesAfter, GivesNext, AppliesIfAnswered, IsOverBy};
 
 use crate::transition::flight::InFlight;
 use cluster_types::{Action, Answer};
@@ -99,7 +99,7 @@ pub trait Outcomes {
         ensures agrees { (c : ClusterOf) (es : List EventOf) (taken : ℕ) → agrees self.old c es taken → AreInFlightByNumber es (pairs_in_flight flight.now)
             → AgreesAfter (agrees self.new) c es taken (pairs_in_flight flight.now) result }
         ensures fitting { (c : ClusterOf) (es : List EventOf) (taken : ℕ) → careful self.old ≡ true → agrees self.old c es taken
-            → AreInFlightByNumber es (pairs_in_flight flight.now) → IsFitting c es taken (pairs_in_flight flight.now) result }
+            → AreInFlightByNumber es (pairs_in_flight flight.now) → AppliesIfAnswered c es taken (pairs_in_flight flight.now) result }
         ensures said { said self.old self.new result };
 
     /// It agrees before the first answer from outside with each journal with which it agrees after some.

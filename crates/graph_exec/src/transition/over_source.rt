@@ -5,7 +5,7 @@ ghost use Rattle.graph_exec.specs.Counts.{IsAbortAnswered};
 ghost use Rattle.graph_exec.specs.LastWords.{SourceLasts, WatcherLasts, transition_word};
 ghost use Rattle.graph_exec.specs.Promises.{EndsWell, KeepsPromises};
 ghost use Rattle.graph_exec.specs.Transitions.{Accords, EndsAs, WentByEnd, HasSaidAll, IsExpected};
-ghost use Rattle.graph_exec.specs.WatchedTransitions.{Hears, IsQuietAt, IsShownAll, heard_at, watched};
+ghost use Rattle.graph_exec.specs.WatchedTransitions.{IsToldUpTo, IsQuietAt, IsShownAll, heard_at, watched};
 
 use crate::transition::ends::{End, WatchedEnd, without_watcher};
 use crate::transition::executor::Executor;
@@ -37,7 +37,7 @@ pub fn run_watched<S: Outcomes, V: Watcher>(
     ensures fitting { S.careful outcomes.old ≡ true → Accords (S.agrees outcomes.old) executor.old → IsExpected result }
 
     // What the watcher was told.
-    ensures told { Hears (V.follows watcher.old watcher.new) (V.stopped watcher.old watcher.new) (S.whole outcomes.old) executor.old executor.new
+    ensures told { IsToldUpTo (V.follows watcher.old watcher.new) (V.stopped watcher.old watcher.new) (S.whole outcomes.old) executor.old executor.new
         (S.rest outcomes.old) (S.rest outcomes.new) (heard_at result) }
     ensures watcher { WatcherLasts V.Watcher watcher.old watcher.new (heard_at result) }
     ensures quiet { IsQuietAt (S.broke outcomes.new) (V.quiet watcher.new) result }

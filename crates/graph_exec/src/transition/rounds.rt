@@ -8,7 +8,7 @@ ghost use Rattle.graph_exec.specs.Inner.Rounds.{Advanced, Answered, StopsAs, ask
 ghost use Rattle.graph_exec.specs.Executors.{IsUnderWay, Went, transition_in};
 ghost use Rattle.graph_exec.specs.Transitions.{Accords, EndsAs, WentByEnd, EndedByItself, IsExpected, WentAsSaid};
 ghost use Rattle.graph_exec.specs.WatcherLines.{RunView};
-ghost use Rattle.graph_exec.specs.WatchedTransitions.{Hears, IsQuietAt, IsShownAll};
+ghost use Rattle.graph_exec.specs.WatchedTransitions.{IsToldUpTo, IsQuietAt, IsShownAll};
 ghost use Rattle.graph_exec.specs.Inner.LastHeard.{heard_in};
 
 use crate::transition::ends::WatchedEnd;
@@ -51,7 +51,7 @@ impl<'c> Executor<'c> {
         ensures aborted { IsAbortAnswered self.old self.new (S.answered outcomes.old) (S.answered outcomes.new) }
         ensures agrees { Accords (S.agrees outcomes.old) self.old → Accords (S.agrees outcomes.new) self.new }
 
-        ensures told { Hears (V.follows watcher.old watcher.new) (V.stopped watcher.old watcher.new) (S.whole outcomes.old) self.old self.new
+        ensures told { IsToldUpTo (V.follows watcher.old watcher.new) (V.stopped watcher.old watcher.new) (S.whole outcomes.old) self.old self.new
             (S.rest outcomes.old) (S.rest outcomes.new) (unwrap_or result Heard.Go) }
         ensures watcher { WatcherLasts V.Watcher watcher.old watcher.new (unwrap_or result Heard.Go) }
         ensures shown { IsShownAll (V.shown watcher.old Heard.Go) self.old → IsShownAll (V.shown watcher.new (unwrap_or result Heard.Go)) self.new }
@@ -81,7 +81,7 @@ impl<'c> Executor<'c> {
         ensures aborted { IsAbortAnswered self.old self.new (S.answered outcomes.old) (S.answered outcomes.new) }
         ensures agrees { Accords (S.agrees outcomes.old) self.old → Accords (S.agrees outcomes.new) self.new }
 
-        ensures told { Hears (V.follows watcher.old watcher.new) (V.stopped watcher.old watcher.new) (S.whole outcomes.old) self.old self.new
+        ensures told { IsToldUpTo (V.follows watcher.old watcher.new) (V.stopped watcher.old watcher.new) (S.whole outcomes.old) self.old self.new
             (S.rest outcomes.old) (S.rest outcomes.new) result }
         ensures watcher { WatcherLasts V.Watcher watcher.old watcher.new result }
         ensures shown { IsShownAll (V.shown watcher.old Heard.Go) self.old → IsShownAll (V.shown watcher.new result) self.new }
@@ -156,7 +156,7 @@ impl<'c> Executor<'c> {
         ensures unread { result ≡ Some WatchedEnd.SourceFault → S.rest outcomes.new ≡ S.rest outcomes.old }
         ensures fitting { S.careful outcomes.old ≡ true → Accords (S.agrees outcomes.old) self.old → IfSome result IsExpected }
 
-        ensures told { Hears (V.follows watcher.old watcher.new) (V.stopped watcher.old watcher.new) (S.whole outcomes.old) self.old self.new
+        ensures told { IsToldUpTo (V.follows watcher.old watcher.new) (V.stopped watcher.old watcher.new) (S.whole outcomes.old) self.old self.new
             (S.rest outcomes.old) (S.rest outcomes.new) (heard_in result) }
         ensures watcher { WatcherLasts V.Watcher watcher.old watcher.new (heard_in result) }
         ensures quiet { IfSome result (IsQuietAt (S.broke outcomes.new) (V.quiet watcher.new)) }

@@ -6,10 +6,10 @@ use Rattle.live_run.specs.declared.line_result.Came.{Came}
 use Rattle.live_run.specs.declared.line_result.Came.TheVariants as came
 use Rattle.live_run.specs.declared.line_meaning.Said.{Said}
 use Rattle.live_run.specs.declared.line_meaning.Said.TheVariants as said
-use Rattle.live_run.specs.AnswersToCome.{Coming, no_more, result_first, Lines, coming_of}
+use Rattle.live_run.specs.AnswersToCome.{Coming, no_more, result_first, LineReaderAt, coming_of}
 
 -- the same, where the source tells what it has left
-abbrev pub told_coming : Cluster → Lines → Option (List ℕ) → Option Coming
+abbrev pub told_coming : Cluster → LineReaderAt → Option (List ℕ) → Option Coming
 told_coming c lines left = option_map (coming_of c lines) left
 
 -- what came of reading on, and then what is still to come
@@ -20,7 +20,7 @@ came_first (Some (came.Stop why)) others = no_more (Some why)
 came_first _ others = others
 
 -- reading on brought this of what was to come
-abbrev pub Brings : Cluster → Option Came → Lines → Lines → Option (List ℕ) → Option (List ℕ) → Type 0
+abbrev pub Brings : Cluster → Option Came → LineReaderAt → LineReaderAt → Option (List ℕ) → Option (List ℕ) → Type 0
 Brings c came old new before after = told_coming c old before ≡ option_map (λ left. came_first came (coming_of c new left)) after
 
 -- what came of a line with this number that says this

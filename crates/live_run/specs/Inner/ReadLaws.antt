@@ -5,7 +5,7 @@ use Rattle.std.proofs.lemmas.Grind.{flat_map-append}
 use Rattle.cluster_io.proofs.Pieces.{Takes-then}
 use Rattle.cluster_types.specs.declared.cluster.Cluster.{Cluster}
 use Rattle.crm_lex.specs.RawLines.{raw_lines}
-use Rattle.live_run.specs.AnswersToCome.{Coming, Lines}
+use Rattle.live_run.specs.AnswersToCome.{Coming, LineReaderAt}
 use Rattle.live_run.specs.SourceFollowed.{AreNear, NoneOrLastSays, LastLineSays, HasRead, IsStoppedBy, bytes_of, count_said, results_first, said_by}
 use Rattle.run_safety.specs.TwoRuns.{IsFront}
 use Rattle.live_run.specs.Inner.ReadSteps.{HasPassed, ReadUntil}
@@ -40,19 +40,19 @@ told_joined given more f g (Some u) None e = cc
 told_joined given more f g (Some u) (Some v) e = ap (option_map (results_first given)) e ∙ ap Some (results_joined given more (g v))
 
 module _ (c : Cluster) where
-  pub read_nothing : (at : Lines) (left : Option (List ℕ)) → HasRead c at at left left [] [] []
+  pub read_nothing : (at : LineReaderAt) (left : Option (List ℕ)) → HasRead c at at left left [] [] []
   read_nothing at None = record { taken = refl; parts = append-nil at.reading.held; cut = refl; answered = λ others. refl; room = omega arith; same_size = refl }
   read_nothing at (Some left) = record { taken = refl; parts = append-nil at.reading.held; cut = refl; answered = λ others. refl; room = omega arith; same_size = refl }
 
-  pub passed_nothing : (at : Lines) (left : Option (List ℕ)) → HasPassed c at at left left
+  pub passed_nothing : (at : LineReaderAt) (left : Option (List ℕ)) → HasPassed c at at left left
   passed_nothing at left = record { lines = []; bytes = []; read = read_nothing at left; near = inl refl }
 
-  module _ (a b : Lines) (x y : Option (List ℕ)) (xs : List (List (List ℕ))) (given : List ResultLine) (bytes : List ℕ) (r : HasRead c a b x y xs given bytes) where
+  module _ (a b : LineReaderAt) (x y : Option (List ℕ)) (xs : List (List (List ℕ))) (given : List ResultLine) (bytes : List ℕ) (r : HasRead c a b x y xs given bytes) where
     parts_on : (more : List ℕ) → a.reading.held ++ (bytes ++ more) ≡ bytes_of xs ++ (b.reading.held ++ more)
     parts_on more =
         sym (append_assoc a.reading.held bytes more) ∙ (ap (λ (t : List ℕ). t ++ more) r.parts ∙ append_assoc (bytes_of xs) b.reading.held more)
 
-    pub read_then : (d : Lines) (z : Option (List ℕ)) (ys : List (List (List ℕ))) (more : List ResultLine) (later : List ℕ) → HasRead c b d y z ys more later
+    pub read_then : (d : LineReaderAt) (z : Option (List ℕ)) (ys : List (List (List ℕ))) (more : List ResultLine) (later : List ℕ) → HasRead c b d y z ys more later
         → HasRead c a d x z (xs ++ ys) (given ++ more) (bytes ++ later)
     read_then d z ys more later q = record {
       taken = Takes-then x y z bytes later r.taken q.taken;
@@ -129,7 +129,7 @@ module _ (c : Cluster) where
     }
 
   -- lines without words, and what comes behind them
-  pub until_then : (a b d : Lines) (x y z : Option (List ℕ)) (found : Option Came) → HasPassed c a b x y → ReadUntil c found b d y z → ReadUntil c found a d x z
+  pub until_then : (a b d : LineReaderAt) (x y z : Option (List ℕ)) (found : Option Came) → HasPassed c a b x y → ReadUntil c found b d y z → ReadUntil c found a d x z
   until_then a b d x y z None p q = record {
     lines = p.lines ++ q.lines;
     bytes = p.bytes ++ q.bytes;

@@ -3,20 +3,20 @@ use Rattle.std.specs.Prelude.{◌≡◌, ℕ, false, Option, Some, None, List, [
 use Rattle.cluster_io.specs.NextLine.{holds_line, IsUndecided}
 use Rattle.cluster_types.specs.declared.cluster.Cluster.{Cluster}
 use Rattle.input_reading.specs.declared.results.result_lines.ResultLine.{ResultLine}
-use Rattle.live_run.specs.AnswersToCome.{Lines}
+use Rattle.live_run.specs.AnswersToCome.{LineReaderAt}
 use Rattle.live_run.specs.declared.line_result.Came.{Came}
 use Rattle.live_run.specs.declared.line_result.Came.TheVariants as came
 use Rattle.live_run.specs.SourceFollowed.{LastLineSays, HasRead, AreNear, AllIsRead, IsStoppedBy}
 
 -- lines without words were passed over
-pub record HasPassed (c : Cluster) (old new : Lines) (before after : Option (List ℕ)) : Type 0 where
+pub record HasPassed (c : Cluster) (old new : LineReaderAt) (before after : Option (List ℕ)) : Type 0 where
   pub lines : List (List (List ℕ))
   pub bytes : List ℕ
   pub read : HasRead c old new before after lines [] bytes
   pub near : AreNear old lines bytes
 
 -- an answer came
-pub record HasGiven (c : Cluster) (old new : Lines) (before after : Option (List ℕ)) (result : ResultLine) : Type 0 where
+pub record HasGiven (c : Cluster) (old new : LineReaderAt) (before after : Option (List ℕ)) (result : ResultLine) : Type 0 where
   pub lines : List (List (List ℕ))
   pub bytes : List ℕ
   pub read : HasRead c old new before after lines (result ∷ []) bytes
@@ -24,14 +24,14 @@ pub record HasGiven (c : Cluster) (old new : Lines) (before after : Option (List
   pub ends : LastLineSays c old lines
 
 -- the end came
-pub record HasReachedEnd (c : Cluster) (old new : Lines) (before after : Option (List ℕ)) : Type 0 where
+pub record HasReachedEnd (c : Cluster) (old new : LineReaderAt) (before after : Option (List ℕ)) : Type 0 where
   pub lines : List (List (List ℕ))
   pub bytes : List ℕ
   pub read : HasRead c old new before after lines [] bytes
   pub all : AllIsRead new after
 
 -- the source of bytes failed. No whole line is held, and what is held gives no answer yet
-pub record HasFaltered (c : Cluster) (old new : Lines) (before after : Option (List ℕ)) : Type 0 where
+pub record HasFaltered (c : Cluster) (old new : LineReaderAt) (before after : Option (List ℕ)) : Type 0 where
   pub lines : List (List (List ℕ))
   pub bytes : List ℕ
   pub read : HasRead c old new before after lines [] bytes
@@ -39,7 +39,7 @@ pub record HasFaltered (c : Cluster) (old new : Lines) (before after : Option (L
   pub undecided : IsUndecided new.reading.room new.reading.longest new.reading.held
 
 -- what was read until this came
-abbrev pub ReadUntil : Cluster → Option Came → Lines → Lines → Option (List ℕ) → Option (List ℕ) → Type 0
+abbrev pub ReadUntil : Cluster → Option Came → LineReaderAt → LineReaderAt → Option (List ℕ) → Option (List ℕ) → Type 0
 ReadUntil c None old new before after = HasPassed c old new before after
 ReadUntil c (Some (came.Answer result)) old new before after = HasGiven c old new before after result
 ReadUntil c (Some came.End) old new before after = HasReachedEnd c old new before after

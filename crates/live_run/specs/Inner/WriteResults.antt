@@ -8,7 +8,7 @@ use Rattle.graph_exec.specs.WatcherLines.{StopsAmong}
 use Rattle.graph_exec.specs.declared.transition.watcher.Heard.{Heard}
 use Rattle.graph_exec.specs.declared.transition.watcher.Heard.TheVariants as heard
 use Rattle.live_run.specs.Ends.{run_lines_text}
-use Rattle.live_run.specs.HeldAndWritten.{CutsShort, GoesOut}
+use Rattle.live_run.specs.HeldAndWritten.{BreaksOff, GoesOut}
 
 -- whoever writes goes on until a write fails
 abbrev pub heard_of : Result (Unit {0}) WriteFault → Heard
@@ -18,10 +18,10 @@ heard_of (Err fault) = heard.Stop
 -- a text was added behind what was held back, or the sink failed
 abbrev pub PutsBehind : Result (Unit {0}) WriteFault → List ℕ → List ℕ → List ℕ → Option (List ℕ) → Option (List ℕ) → Type 0
 PutsBehind (Ok done) text held held_now before after = GoesOut text held held_now before after
-PutsBehind (Err fault) text held held_now before after = CutsShort held text before after
+PutsBehind (Err fault) text held held_now before after = BreaksOff held text before after
 
 module _ (c : Cluster) (held held_now : List ℕ) (before after : Option (List ℕ)) where
   -- these lines were added, or some of them, behind which the sink failed
   abbrev pub PutsLines : Result (Unit {0}) WriteFault → List RunLine → Type 0
   PutsLines (Ok done) lines = GoesOut (run_lines_text c lines) held held_now before after
-  PutsLines (Err fault) lines = StopsAmong (λ (front : List RunLine) (at : RunLine). CutsShort (held ++ run_lines_text c front) (run_line c at) before after) lines
+  PutsLines (Err fault) lines = StopsAmong (λ (front : List RunLine) (at : RunLine). BreaksOff (held ++ run_lines_text c front) (run_line c at) before after) lines

@@ -10,7 +10,7 @@ use Rattle.cluster_types.specs.declared.placement.Decision.TheVariants.{Place, P
 use Rattle.cluster_types.specs.declared.rules.Colocation.{Colocation}
 use Rattle.cluster_types.specs.Decisions.{decision_of}
 use Rattle.loops.specs.FirstLoops.{with_first_orders}
-use Rattle.cluster_types.specs.Numbers.{Link, StepOf, is_step, is_within_phase, links}
+use Rattle.cluster_types.specs.Numbers.{Link, LeafStep, is_step, is_within_phase, links}
 
 -- two positions a leaf
 abbrev pub decision_position : Decision → ℕ
@@ -41,7 +41,7 @@ op_number op.Start = 2
 op_number op.Promote = 3
 op_number op.Monitor = 0
 
-abbrev pub step_position : StepOf → ℕ
+abbrev pub step_position : LeafStep → ℕ
 step_position s = 4 * s.leaf + op_number s.what
 
 abbrev pub link_edge : Link → Edge

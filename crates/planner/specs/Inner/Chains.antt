@@ -3,12 +3,12 @@ use Rattle.std.specs.Prelude.{◌≡◌, ℕ, ◌<◌, ◌==◌, Bool, false, Op
 use Rattle.std.specs.Option.{option_map_or}
 use Rattle.cluster_types.specs.declared.journal.Action.{Action}
 use Rattle.cluster_types.specs.declared.rules.Order.{Order}
-use Rattle.cluster_types.specs.Precedence.{CellOf, change_cell, is_serialized}
+use Rattle.cluster_types.specs.Precedence.{LeafOnNode, change_cell, is_serialized}
 use Rattle.planner.specs.declared.precedence.chains.Changes.{Changes}
 use Rattle.planner.specs.Chains.{changes_at, IsChained}
 
 -- the node of the cell that an action changes
-abbrev pub changed_node : Option CellOf → Option ℕ
+abbrev pub changed_node : Option LeafOnNode → Option ℕ
 changed_node (Some a) = Some a.node
 changed_node None = None
 

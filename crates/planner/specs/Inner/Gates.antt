@@ -5,7 +5,7 @@ use Rattle.std.specs.Option.{option_map_or}
 use Rattle.cluster_types.specs.declared.cluster.Cluster.{Cluster}
 use Rattle.edges.specs.declared.edge.Edge.{Edge}
 use Rattle.cluster_types.specs.declared.journal.Action.{Action}
-use Rattle.cluster_types.specs.Precedence.{CellOf}
+use Rattle.cluster_types.specs.Precedence.{LeafOnNode}
 use Rattle.planner.specs.declared.precedence.sides.Join.{Join}
 use Rattle.planner.specs.declared.precedence.sides.Side.{Side}
 use Rattle.planner.specs.Joins.{side_key_of}
@@ -14,28 +14,28 @@ abbrev pub edge : ℕ → ℕ → Edge
 edge x y = record { before = x; after = y }
 
 -- by which cell the action at a position stands on a side
-abbrev pub key_at : Cluster → List Action → Side → ℕ → Option CellOf
+abbrev pub key_at : Cluster → List Action → Side → ℕ → Option LeafOnNode
 key_at c actions side place = option_map_or (side_key_of c actions side) (slice_get actions place) None
 
 module _ (base width : ℕ) where
   -- each cell of a join has a gate: those of one leaf stand together
-  abbrev pub gate_of : CellOf → ℕ
+  abbrev pub gate_of : LeafOnNode → ℕ
   gate_of a = base + (a.leaf * width + a.node)
 
-  abbrev pub edge_in : Option CellOf → ℕ → List Edge
+  abbrev pub edge_in : Option LeafOnNode → ℕ → List Edge
   edge_in (Some a) place = edge place (gate_of a) ∷ []
   edge_in None place = []
 
-  abbrev pub edge_out : Option CellOf → ℕ → List Edge
+  abbrev pub edge_out : Option LeafOnNode → ℕ → List Edge
   edge_out (Some a) place = edge (gate_of a) place ∷ []
   edge_out None place = []
 
   -- the edges of one action, by its cells on the two sides
-  abbrev pub gate_edges_at : (ℕ → Option CellOf) → (ℕ → Option CellOf) → ℕ → List Edge
+  abbrev pub gate_edges_at : (ℕ → Option LeafOnNode) → (ℕ → Option LeafOnNode) → ℕ → List Edge
   gate_edges_at from to place = edge_in (from place) place ++ edge_out (to place) place
 
   -- the edges of a join, over some positions
-  abbrev pub join_edges : (ℕ → Option CellOf) → (ℕ → Option CellOf) → List ℕ → List Edge
+  abbrev pub join_edges : (ℕ → Option LeafOnNode) → (ℕ → Option LeafOnNode) → List ℕ → List Edge
   join_edges from to places = flat_map (gate_edges_at from to) places
 
 -- the edges of some joins, each with gates of its own. How many leaves and nodes the cells of a join have, and at which positions its actions stand, is

@@ -3,12 +3,12 @@ use Rattle.std.specs.Prelude.{ℕ, ◌+◌, Option, Some, None, List, sum_by}
 use Rattle.cluster_types.specs.declared.cluster.Cluster.{Cluster}
 use Rattle.cluster_types.specs.declared.journal.Action.{Action}
 use Rattle.planner.specs.declared.precedence.sides.Join.{Join}
-use Rattle.cluster_types.specs.Precedence.{CellOf}
+use Rattle.cluster_types.specs.Precedence.{LeafOnNode}
 use Rattle.planner.specs.Joins.{side_key_of}
 
 module _ (c : Cluster) (actions : List Action) where
   -- on how many sides an action stands: it has as many edges
-  abbrev pub one_if : Option CellOf → ℕ
+  abbrev pub one_if : Option LeafOnNode → ℕ
   one_if (Some a) = 1
   one_if None = 0
 

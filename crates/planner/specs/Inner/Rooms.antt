@@ -3,7 +3,7 @@ use Rattle.std.specs.Prelude.{◌≡◌, ℕ, ◌<◌, Bool, true, false, Some, 
 use Rattle.std.specs.Coded.{Π_prop, →_prop, le_prop}
 use Rattle.cluster_types.specs.declared.cluster.Cluster.{Cluster}
 use Rattle.cluster_types.specs.declared.journal.Action.{Action}
-use Rattle.cluster_types.specs.Precedence.{CellOf}
+use Rattle.cluster_types.specs.Precedence.{LeafOnNode}
 use Rattle.edges.specs.declared.edge.Edge.{Edge}
 use Rattle.cluster_types.specs.declared.journal.Action.TheVariants.{Fence, Probe, Operation, MigrateTo, MigrateFrom}
 use Rattle.planner.specs.declared.precedence.sides.Join.{Join}
@@ -14,8 +14,8 @@ use Rattle.planner.specs.ActionNames.{IsActionWithin}
 
 -- each cell of a join has a gate whose number has 32 bits
 pub record GatesHaveRoom (c : Cluster) (actions : List Action) (j : Join) (base width : ℕ) : Type 0 where
-  pub from : (place : ℕ) (a : CellOf) → key_at c actions j.from place ≡ Some a → gate_of base width a < 4294967296
-  pub to : (place : ℕ) (a : CellOf) → key_at c actions j.to place ≡ Some a → gate_of base width a < 4294967296
+  pub from : (place : ℕ) (a : LeafOnNode) → key_at c actions j.from place ≡ Some a → gate_of base width a < 4294967296
+  pub to : (place : ℕ) (a : LeafOnNode) → key_at c actions j.to place ≡ Some a → gate_of base width a < 4294967296
 
 within_prop : (c : Cluster) (a : Action) → IsProp (IsActionWithin c a)
 within_prop c (Fence n) x y = le_prop x y

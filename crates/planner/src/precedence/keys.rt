@@ -17,9 +17,9 @@ pub struct Key {
 }
 
 impl Model for Key {
-    ghost use Rattle.cluster_types.specs.Precedence.{CellOf};
+    ghost use Rattle.cluster_types.specs.Precedence.{LeafOnNode};
 
-    ghost Value = { CellOf };
+    ghost Value = { LeafOnNode };
 
     ghost view = { λ key. record { leaf = key.leaf; node = key.node } };
 }

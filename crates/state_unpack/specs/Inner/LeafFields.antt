@@ -4,7 +4,7 @@ use Rattle.cluster_types.specs.declared.leaf.Leaf.{Leaf}
 use Rattle.cluster_types.specs.declared.leaf.OnFail.{OnFail}
 use Rattle.cluster_types.specs.declared.leaf.Op.{Op}
 use Rattle.cluster_types.specs.declared.leaf.Op.TheVariants.{Start, Stop, Promote, Demote, Monitor}
-use Rattle.cluster_types.specs.Outcomes.{monitor_fail}
+use Rattle.cluster_types.specs.Outcomes.{on_fail_of_monitor}
 
 -- what the failure of an operation of the leaf leads to
 abbrev pub op_fail_of : Leaf → Op → ℕ → OnFail
@@ -12,4 +12,4 @@ op_fail_of leaf Start interval = leaf.start_fail
 op_fail_of leaf Stop interval = leaf.stop_fail
 op_fail_of leaf Promote interval = leaf.promote_fail
 op_fail_of leaf Demote interval = leaf.demote_fail
-op_fail_of leaf Monitor interval = monitor_fail leaf.monitors interval
+op_fail_of leaf Monitor interval = on_fail_of_monitor leaf.monitors interval

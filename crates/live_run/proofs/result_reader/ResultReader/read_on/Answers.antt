@@ -1,6 +1,6 @@
 use Rattle.std.proofs.Common.{arith, Some, None, refl, ap, sym, subst, ◌∙◌}
 use Rattle.live_run.specs.AnswersAtHand.{HoldsResultLine}
-use Rattle.live_run.specs.AnswersToCome.{Lines}
+use Rattle.live_run.specs.AnswersToCome.{LineReaderAt}
 use Rattle.live_run.specs.ResultReaders.{reader_lines, source_in}
 use Rattle.live_run.specs.Inner.ReadLaws.{passed_nothing, until_then}
 use Rattle.live_run.proofs.Bringing.{none_brings}
@@ -45,7 +45,7 @@ loop-came-preserved g c =
       count = omega arith;
       no_failure = λ exact. now.bears.no_failure exact (λ e. cc) ∙ so_far.no_failure exact;
       same_source = now.same_source ∙ so_far.same_source;
-      first = λ h. absurd (now.some (subst (λ (ls : Lines). HoldsResultLine ls.reading.held) (sym (so_far.first h).0) h) refl);
+      first = λ h. absurd (now.some (subst (λ (ls : LineReaderAt). HoldsResultLine ls.reading.held) (sym (so_far.first h).0) h) refl);
     }
 
 -- a line that was held from the first on
@@ -53,9 +53,9 @@ loop-came-preserved g c =
 pub returns-in-Some-clause-unread : goal.returns-in-Some-clause-unread
 returns-in-Some-clause-unread g c h =
     let first = c.loop-came.invariant.first h in
-    c.in-Some.ensures.unread (subst (λ (ls : Lines). HoldsResultLine ls.reading.held) (sym first.0) h) ∙ first.1
+    c.in-Some.ensures.unread (subst (λ (ls : LineReaderAt). HoldsResultLine ls.reading.held) (sym first.0) h) ∙ first.1
 
 pub returns-in-Some-clause-at_hand : goal.returns-in-Some-clause-at_hand
 returns-in-Some-clause-at_hand g c h e =
     let first = c.loop-came.invariant.first h in
-    c.in-Some.ensures.at_hand (subst (λ (ls : Lines). HoldsResultLine ls.reading.held) (sym first.0) h) (ap Some e)
+    c.in-Some.ensures.at_hand (subst (λ (ls : LineReaderAt). HoldsResultLine ls.reading.held) (sym first.0) h) (ap Some e)
