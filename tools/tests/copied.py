@@ -45,6 +45,7 @@ class Copy:
         shutil.copy(os.path.join(TOP, "crates", "sim_core", "src", "help.rt"), os.path.join(self.top, "crates", "sim_core", "src"))
         with open(os.path.join(self.top, "crates.txt"), "w", encoding="utf-8") as crates:
             crates.write(CRATES)
+        shutil.copy(os.path.join(TOP, "HANDLES"), self.top)
         os.mkdir(self.commands)
         self.environment = dict(plain(), CEKPAYO_PROGRESS="1")
         self.environment["PATH"] = self.commands + ":" + self.environment["PATH"]
@@ -67,6 +68,10 @@ class Copy:
         process = self.begin(*words)
         output, said = process.communicate(data)
         return process.returncode, output.decode(), said.decode()
+
+    def read(self, *path):
+        with open(os.path.join(self.top, *path), encoding="utf-8") as file:
+            return file.read()
 
     def asked(self):
         """What `rt` was asked so far."""

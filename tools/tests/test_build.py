@@ -10,6 +10,10 @@ from copied import INPUT, Copy
 from expecting import PROGRAM, expect
 
 
+# A stand-in's library of a crate: the name of the crate, or of a crate that stands on others the libraries of these.
+LIBRARIES = "[ $1 = lib ] && mkdir -p out/rlib && { [ \"${PWD##*/}\" = sim_core ] && cat ../{lemmas,listed}/out/rlib/stamp || echo \"${PWD##*/}\"; } > out/rlib/stamp"
+
+
 def try_build(folder):
     """The script builds when it must, and only then."""
     copy = Copy(folder, "build")
@@ -20,8 +24,11 @@ def try_build(folder):
     expect("what never builds", copy.asked() == [], str(copy.asked()))
     expect("a failed build", copy.run("check")[:2] == (126, ""))
     before = len(copy.asked())
-    copy.put_rt(f"[ $1 = lib ] || cp {PROGRAM} out/sim_cli")
+    copy.put_rt(f"{LIBRARIES} || cp {PROGRAM} out/sim_cli")
     expect("--build", copy.run("--build")[:2] == (0, ""))
+    for crate, built in (("lemmas", "lemmas\n"), ("listed", "listed\n"), ("sim_core", "lemmas\nlisted\n")):
+        expect(f"the library of {crate}", copy.read("crates", crate, "out", "rlib", "stamp") == built)
+    expect("the lanes are gone", not os.path.exists(os.path.join(copy.top, "crates", "sim_cli", "out", "lanes")))
     proved = [re.sub(r"--jobs [1-4] ", "", call) for call in copy.asked()[before:]]
     expect("what builds", sorted(proved[:2]) == ["lib in lemmas", "lib in listed"] and proved[2:] == ["lib in sim_core", "run -- --version in sim_cli"], str(proved))
     copy.put_rt("exit 1")
