@@ -183,12 +183,12 @@ module _ (c : Cluster) (journal : Journal) (reading : Reading) where
     broken_reached : (left : List ℕ) (after old middle new : Option (List ℕ)) (held : List ℕ) (t : SourceState) (was is : Bool) (j : Journal) → Tells old middle held → held ≡ []
         → replays.IsTold Follows Stopped (along (Some left) after old middle t was is) journal.events (sight (rest_of (told_by start (Some left))) was) (sight (rest_of (told_by t after)) is) most j in_failure
         → HasBroken start t (Some left) after → new ≡ middle → Reaches c journal reading left after old new end.ReadFault
-    broken_reached left after old middle new held t was is j tells none w h same = on after refl h.told h.read.cut
+    broken_reached left after old middle new held t was is j tells none w h same = on after refl h.told
       where
         on : (o : Option (List ℕ)) → o ≡ after → Some (results_behind c journal reading left) ≡ option_map (λ rest. results_first h.given (coming_to t rest)) o
-            → Some (raw_lines (reading.held ++ left)) ≡ option_map (λ rest. h.lines ++ raw_lines (t.lines.reading.held ++ rest)) o → IsBrokenOff c journal reading left after old new
-        on None o e cut = cc
-        on (Some unread) o e cut =
+            → IsBrokenOff c journal reading left after old new
+        on None o e = cc
+        on (Some unread) o e =
             let all = same_Some (results_behind c journal reading left) (results_first h.given (coming_to t unread)) e in
             record {
               bytes = h.bytes;
@@ -205,7 +205,7 @@ module _ (c : Cluster) (journal : Journal) (reading : Reading) where
                     ap (λ (x : List ℕ). reading.held ++ x) given
                     ∙ (sym (append_assoc reading.held h.bytes unread)
                     ∙ (ap (λ (x : List ℕ). x ++ unread) h.read.parts ∙ append_assoc (bytes_of h.lines) t.lines.reading.held unread));
-                cut = same_Some (raw_lines (reading.held ++ left)) (h.lines ++ raw_lines (t.lines.reading.held ++ unread)) cut;
+                whole = (h.read.whole h.not_ended).1;
               };
               no_answer = record {
                 unfinished = h.unfinished;

@@ -1,5 +1,5 @@
 -- What one answer of a reader of lines has read.
-use Rattle.std.proofs.Common.{◌≡◌, ◌⊎◌, inl, inr, ℕ, ◌+◌, ◌-◌, ◌<◌, true, Option, Some, None, List, [], ◌∷◌, ◌++◌, length, option_map, IfSome, append-nil, append_assoc, length-append, refl, ap, sym, subst, ◌∙◌, arith}
+use Rattle.std.proofs.Common.{◌≡◌, ◌⊎◌, inl, inr, ℕ, ◌+◌, ◌-◌, ◌<◌, Bool, true, false, Option, Some, None, List, [], ◌∷◌, ◌++◌, length, option_map, IfSome, append-nil, append_assoc, length-append, refl, ap, sym, subst, ◌∙◌, arith}
 use Rattle.std.specs.List.{concat}
 use Rattle.cluster_io.specs.NextLine.{first_line, first_line_of, holds_line, line_answer, IsUndecided}
 use Rattle.cluster_io.specs.Readings.{ReaderAnswered, CameBy, Reading, nothing_came, more_came}
@@ -12,7 +12,7 @@ use Rattle.crm_lex.specs.declared.fault.LexCause.TheVariants.{LineTooLong}
 use Rattle.crm_lex.proofs.PhysicalLines.{concat-lines}
 use Rattle.live_run.specs.AnswersToCome.{Coming, LineReaderAt, coming, no_more, said_first}
 use Rattle.live_run.specs.Inner.ComingSteps.{said_came}
-use Rattle.live_run.specs.SourceFollowed.{AreNear, LastLineSays, HasRead, IsStoppedBy, bytes_of, count_said, results_first, said_by}
+use Rattle.live_run.specs.SourceFollowed.{AreNear, LastLineSays, HasRead, IsStoppedBy, StandWhole, bytes_of, count_said, results_first, said_by}
 use Rattle.run_safety.specs.TwoRuns.{IsFront}
 use Rattle.live_run.specs.Inner.ReadSteps.{ReadUntil}
 use Rattle.live_run.specs.LineSays.{line_says, place_behind_said, line_says_within, sized_says}
@@ -30,6 +30,30 @@ use Rattle.input_reading.specs.declared.results.result_lines.ResultLine.{ResultL
 
 pub bytes_one : (raw : List ℕ) → bytes_of (physical_lines raw ∷ []) ≡ raw
 bytes_one raw = append-nil (concat (physical_lines raw)) ∙ concat-lines raw
+
+-- a source that hasn't ended by now hadn't before
+pub was_open : (step : LineStep) (old new : Reading) (before after : Option (List ℕ)) (a : ReaderAnswered step old new before after) → a.ended ≡ false → old.ended ≡ false
+was_open step old new before after a unended = by old.ended refl
+  where
+    by : (ended : Bool) → old.ended ≡ ended → ended ≡ false
+    by false is = refl
+    by true is = let now = (a.remembers is).0 in cc
+
+pub line_open : (old new : Reading) (before after : Option (List ℕ)) (a : ReaderAnswered Line old new before after) → new.ended ≡ false → a.ended ≡ false
+line_open old new before after a unended = sym (ap (λ (r : Reading). r.ended) a.leaves.others) ∙ unended
+
+-- a line is handed out, behind which these bytes are held
+pub handed_parts : (old new : Reading) (before after : Option (List ℕ)) (a : ReaderAnswered Line old new before after)
+    → old.held ++ a.bytes ≡ bytes_of (physical_lines new.raw ∷ []) ++ new.held
+handed_parts old new before after a = a.leaves.parts ∙ ap (λ (t : List ℕ). t ++ new.held) (sym (bytes_one new.raw))
+
+-- before the end of the source it has its line end
+pub line_stands : (old new : Reading) (before after : Option (List ℕ)) (a : ReaderAnswered Line old new before after) → a.ended ≡ false
+    → StandWhole (physical_lines new.raw ∷ []) new.held
+line_stands old new before after a unended rest =
+    ap raw_lines (sym (append_assoc (bytes_of (physical_lines new.raw ∷ [])) new.held rest)
+    ∙ ap (λ (t : List ℕ). t ++ rest) (sym (handed_parts old new before after a)))
+    ∙ (handed_cut old new before after a rest (λ ended. (let none : ⊥ = cc in absurd none))).lines
 
 -- a line is handed out, which is the first of those to come
 pub line_cut : (old new : Reading) (before after : Option (List ℕ)) (a : ReaderAnswered Line old new before after)
@@ -52,7 +76,7 @@ module _ (c : Cluster) (at : Place) (old new : Reading) (before after : Option (
   behind s = lines_at (place_behind_said at s (length (physical_lines new.raw))) new
 
   line_parts : old.held ++ a.bytes ≡ bytes_of lines ++ new.held
-  line_parts = a.leaves.parts ∙ ap (λ (t : List ℕ). t ++ new.held) (sym (bytes_one new.raw))
+  line_parts = handed_parts old new before after a
 
   line_near : AreNear (lines_at at old) lines a.bytes
   line_near =
@@ -77,6 +101,9 @@ module _ (c : Cluster) (at : Place) (old new : Reading) (before after : Option (
     taken = a.taken;
     parts = line_parts;
     cut = line_cut old new before after a;
+    whole = λ now.
+        let unended = line_open old new before after a now in
+        (was_open Line old new before after a unended, line_stands old new before after a unended);
     answered = λ others. says_first s is others ∙ gives (said_by c (behind s) others);
     room =
         let left = room_is old new before after a in
@@ -135,6 +162,19 @@ unmoved TooLarge old new before after a other =
 unmoved Failed old new before after a other =
     (ap (λ (r : Reading). r.held) a.leaves.0, (ap (λ (r : Reading). r.room) a.leaves.0, ap (λ (r : Reading). r.longest) a.leaves.0))
 
+-- no line is handed out, and the source hasn't ended
+pub still_open : (step : LineStep) (old new : Reading) (before after : Option (List ℕ)) (a : ReaderAnswered step old new before after) → (step ≡ Line → ⊥)
+    → new.ended ≡ false → old.ended ≡ false
+still_open Line old new before after a other unended = absurd (other refl)
+still_open End old new before after a other unended = let ended = ap (λ (r : Reading). r.ended) a.leaves.0 in cc
+still_open TooLong old new before after a other unended = was_open TooLong old new before after a (sym (ap (λ (r : Reading). r.ended) a.leaves) ∙ unended)
+still_open TooLarge old new before after a other unended = was_open TooLarge old new before after a (sym (ap (λ (r : Reading). r.ended) a.leaves) ∙ unended)
+still_open Failed old new before after a other unended = sym (ap (λ (r : Reading). r.ended) a.leaves.0) ∙ unended
+
+-- a source that fails hasn't ended
+pub failed_open : (old new : Reading) (before after : Option (List ℕ)) → ReaderAnswered Failed old new before after → new.ended ≡ false
+failed_open old new before after a = ap (λ (r : Reading). r.ended) a.leaves.0 ∙ was_open Failed old new before after a a.leaves.2
+
 -- what is to come stays
 pub unmoved_cut : (old new : Reading) (before after : Option (List ℕ)) (bytes : List ℕ) → before ≡ option_map (λ left. bytes ++ left) after
     → new.held ≡ old.held ++ bytes → option_map (λ left. raw_lines (old.held ++ left)) before ≡ option_map (λ left. raw_lines (new.held ++ left)) after
@@ -146,11 +186,13 @@ unmoved_cut old new before after bytes taken held = ap (option_map (λ left. raw
     on (Some left) = ap (λ (t : List ℕ). Some (raw_lines t)) (sym (append_assoc old.held bytes left) ∙ ap (λ (t : List ℕ). t ++ left) (sym held))
 
 unmoved_read : (c : Cluster) (at : Place) (old new : Reading) (before after : Option (List ℕ)) (bytes : List ℕ) → before ≡ option_map (λ left. bytes ++ left) after
-    → new.held ≡ old.held ++ bytes → new.room ≡ old.room → new.longest ≡ old.longest → HasRead c (lines_at at old) (lines_at at new) before after [] [] bytes
-unmoved_read c at old new before after bytes taken held room longest = record {
+    → new.held ≡ old.held ++ bytes → new.room ≡ old.room → new.longest ≡ old.longest → (new.ended ≡ false → old.ended ≡ false)
+    → HasRead c (lines_at at old) (lines_at at new) before after [] [] bytes
+unmoved_read c at old new before after bytes taken held room longest was = record {
   taken = taken;
   parts = sym held;
   cut = unmoved_cut old new before after bytes taken held;
+  whole = λ unended. (was unended, λ rest. refl);
   answered = λ others. ap (λ (r : ℕ). coming c old.longest at r others) (sym room) ∙ ap (λ (n : ℕ). coming c n at new.room others) (sym longest);
   room = omega (arith, room);
   same_size = longest;
@@ -163,7 +205,7 @@ end_until c at old new before after a =
     record {
       lines = [];
       bytes = a.bytes;
-      read = unmoved_read c at old new before after a.bytes a.taken u.0 u.1.0 u.1.1;
+      read = unmoved_read c at old new before after a.bytes a.taken u.0 u.1.0 u.1.1 (still_open End old new before after a (λ e. cc));
       all = record { none_held = u.0 ∙ a.leaves.1; none_left = a.at_end a.leaves.2 };
     }
 
@@ -178,7 +220,8 @@ fault_until c at old new before after a =
     record {
       lines = [];
       bytes = a.bytes;
-      read = unmoved_read c at old new before after a.bytes a.taken u.0 u.1.0 u.1.1;
+      read = unmoved_read c at old new before after a.bytes a.taken u.0 u.1.0 u.1.1 (still_open Failed old new before after a (λ e. cc));
+      not_ended = failed_open old new before after a;
       unfinished = ap holds_line u.0 ∙ a.leaves.1;
       undecided = undecided_now old new before after a;
     }

@@ -14,7 +14,7 @@ use Rattle.faults.specs.declared.fault.Fault.{Fault}
 use Rattle.faults.specs.declared.fault.Fault.TheVariants.{At, NoMemory}
 use Rattle.input_reading.specs.declared.input.cause.InputCause.{InputCause}
 use Rattle.input_reading.specs.declared.input.cause.InputCause.TheVariants.{Words}
-use Rattle.live_run.specs.SourceFollowed.{bytes_of, count_lines}
+use Rattle.live_run.specs.SourceFollowed.{StandWhole, bytes_of, count_lines}
 use Rattle.live_run.specs.declared.head.HeadStop.{HeadStop}
 use Rattle.live_run.specs.declared.head.HeadStop.TheVariants as stop
 
@@ -91,17 +91,19 @@ abbrev pub KeepsBytes : ReaderSofar → ReaderSofar → Option (List ℕ) → Op
 KeepsBytes old new before after =
     option_map (λ (left : List ℕ). old.text ++ (old.reading.held ++ left)) before ≡ option_map (λ (left : List ℕ). new.text ++ (new.reading.held ++ left)) after
 
--- the head of which no text is given: a line is refused, or goes past the limit. Nothing is said where the source or memory failed
+-- why no head was given: a line is refused, or goes past the limit. Of a source or memory that failed nothing is said
 abbrev pub IsStopOf : HeadFound → HeadStop → Type 0
 IsStopOf head (stop.Refused line why) = head ≡ refused line why
 IsStopOf head stop.TooLarge = head ≡ too_large
 IsStopOf head _ = Unit {0}
 
--- the first of the logical lines to come were taken, and this is their text: behind them a reader has the number and the room that they leave
+-- the first of the logical lines to come were taken, and this is their text: behind them a reader has the number and the room that they
+-- leave. Before the end of the source each of them is whole
 pub record HasTaken (old new : Reading) (text : List ℕ) (before after : Option (List ℕ)) : Type 0 where
   pub lines : List (List (List ℕ))
   pub text_is : text ≡ bytes_of lines
   pub cut : option_map (λ left. raw_lines (old.held ++ left)) before ≡ option_map (λ left. lines ++ raw_lines (new.held ++ left)) after
+  pub whole : new.ended ≡ false → (old.ended ≡ false) × StandWhole lines new.held
   pub number : new.next ≡ old.next + count_lines lines
   pub room : length text + new.room ≡ old.room
 
@@ -111,12 +113,13 @@ pub record HasHeadGoneOn (old new : Reading) (text : List ℕ) (before after : O
   pub same_size : new.longest ≡ old.longest
   pub goes_on : IfSome after (λ left. AllGoOnBehind old.room old.longest old.next taken.lines)
 
--- reading stopped amid the head: behind each line that was taken whole the head goes on, and this is the text of these lines. No further line was taken
+-- reading stopped amid the head, before the end of the source: behind each line that was taken whole the head goes on, and this is the text of these lines. No further line was taken
 -- whole, and what is held gives no answer yet
 pub record IsAmid (old new : Reading) (before after : Option (List ℕ)) : Type 0 where
   pub text : List ℕ
   pub keeps : KeepsBytes (so_far [] old) (so_far text new) before after
   pub gone_on : HasHeadGoneOn old new text before after
+  pub not_ended : new.ended ≡ false
   pub none_whole : holds_line new.held ≡ false
   pub undecided : IsUndecided new.room new.longest new.held
 

@@ -15,7 +15,7 @@ use Rattle.cluster_types.specs.Texts.{run_line}
 use Rattle.crm_lex.specs.RawLines.{raw_lines}
 use Rattle.live_run.specs.AnswersToCome.{Coming, LineReaderAt, coming_of}
 use Rattle.live_run.specs.Courses.{answers_to_come, starting}
-use Rattle.live_run.specs.SourceFollowed.{AreNear, NoneOrLastSays, bytes_of, said_by}
+use Rattle.live_run.specs.SourceFollowed.{AreNear, NoneOrLastSays, StandWhole, bytes_of, said_by}
 use Rattle.live_run.specs.declared.line_stop.LineCause.{LineCause}
 use Rattle.live_run.specs.declared.line_stop.LineStop.TheVariants as why
 use Rattle.input_reading.specs.declared.results.result_lines.ResultLine.{ResultLine}
@@ -34,14 +34,14 @@ at_first_result c journal reading = (starting c (moment_of journal.events) readi
 abbrev pub results_behind : Cluster → Journal → Reading → List ℕ → Coming
 results_behind c journal reading left = coming_of c (at_first_result c journal reading) left
 
--- of a text these logical lines were taken whole. Behind them some bytes are held, and the source has the others left
-pub record HasWholeLinesTaken (text : List ℕ) (after : Option (List ℕ)) : Type 0 where
+-- of a text these logical lines were taken, each with its line end. Behind them some bytes are held, and the source has the others left
+pub record HasWholeLinesTaken (text : List ℕ) (left_now : Option (List ℕ)) : Type 0 where
   pub lines : List (List (List ℕ))
   pub held : List ℕ
   pub unread : List ℕ
-  pub left_is : after ≡ Some unread
+  pub left_is : left_now ≡ Some unread
   pub parts : text ≡ bytes_of lines ++ (held ++ unread)
-  pub cut : raw_lines text ≡ lines ++ raw_lines (held ++ unread)
+  pub whole : StandWhole lines held
 
 -- bytes that are held give no answer yet: they hold no whole line, and none that is too long or goes past the limit
 pub record GivesNoAnswer (room longest : ℕ) (held : List ℕ) : Type 0 where
@@ -49,26 +49,26 @@ pub record GivesNoAnswer (room longest : ℕ) (held : List ℕ) : Type 0 where
   pub undecided : IsUndecided room longest held
 
 -- of a run over these bytes, of which the source has some left now
-module _ (c : Cluster) (journal : Journal) (reading : Reading) (left : List ℕ) (after : Option (List ℕ)) where
+module _ (c : Cluster) (journal : Journal) (reading : Reading) (left_then : List ℕ) (left_now : Option (List ℕ)) where
   -- what is to come of its result lines
   abbrev pub results : Coming
-  results = results_behind c journal reading left
+  results = results_behind c journal reading left_then
 
   -- the lines that say this were asked for, and no more: of what lies behind the last of them only what came with its end was taken, fewer than 4,096 bytes
   pub record WasAskedFor (asked : Coming) : Type 0 where
     pub lines : List (List (List ℕ))
-    pub first : IsFront lines (raw_lines (reading.held ++ left))
+    pub first : IsFront lines (raw_lines (reading.held ++ left_then))
     pub said : said_by c (at_first_result c journal reading) lines ≡ asked
     pub ends : NoneOrLastSays c (at_first_result c journal reading) lines
     pub bytes : List ℕ
-    pub taken : TakesBytes (Some left) bytes after
+    pub taken : TakesBytes (Some left_then) bytes left_now
     pub near : AreNear (at_first_result c journal reading) lines bytes
 
   -- all was asked for, and read: no line of it ended the reading
   pub record WasAllAskedFor (asked : Coming) : Type 0 where
     pub all : results ≡ asked
     pub unstopped : asked.stop ≡ None
-    pub none_left : after ≡ Some []
+    pub none_left : left_now ≡ Some []
 
   -- a call of the writer amid the run, behind these lines: it is told the lines of one step, one by one, up to this one, and those behind it no more. Nor is it
   -- told the line that ends the transition, which may come right behind the step. The run has taken these answers by then
@@ -142,12 +142,12 @@ module _ (c : Cluster) (journal : Journal) (reading : Reading) (left : List ℕ)
   text_of_call (of_refusal call) = line_refusal_text call.line call.cause
 
   -- and of what a sink held before and holds now
-  module _ (old new : Option (List ℕ)) where
+  module _ (written_then written_now : Option (List ℕ)) where
     -- the text that is due with this end was written
     pub record HasWritten (how : LiveEnd) : Type 0 where
       pub text : List ℕ
       pub gets : EndGets c journal results how text
-      pub added : Adds old text new
+      pub added : Adds written_then text written_now
 
     -- the run took the answers of these lines, each of them and no other, and asks for one more. No action has ended silently. Its lines were written
     pub record IsRunOverLines (lines : List (List (List ℕ))) : Type 0 where
@@ -160,14 +160,14 @@ module _ (c : Cluster) (journal : Journal) (reading : Reading) (left : List ℕ)
       pub run : IsRunSoFar c journal.promotions (is_none results.stop) journal.events (Some (answers_to_come results)) printed journal_now
           (Some (map (λ (r : ResultLine). r.answer) behind))
       pub none_silent : IsRunSoFar c journal.promotions false journal.events (Some (map (λ (r : ResultLine). r.answer) given)) printed journal_now (Some [])
-      pub added : Adds old (run_lines_text c printed) new
+      pub added : Adds written_then (run_lines_text c printed) written_now
 
     -- the source failed, behind some bytes that it gave: of the bytes that were held, and these, some lines were taken whole. The others give no answer yet,
     -- and the run went over these lines
     pub record IsBrokenOff : Type 0 where
       pub bytes : List ℕ
-      pub taken : TakesBytes (Some left) bytes after
-      pub whole : HasWholeLinesTaken (reading.held ++ left) after
+      pub taken : TakesBytes (Some left_then) bytes left_now
+      pub whole : HasWholeLinesTaken (reading.held ++ left_then) left_now
       pub no_answer : GivesNoAnswer (reading.room - length (bytes_of whole.lines)) reading.longest whole.held
       pub ran : IsRunOverLines whole.lines
 
@@ -176,8 +176,8 @@ module _ (c : Cluster) (journal : Journal) (reading : Reading) (left : List ℕ)
     pub record HasSinkFailed : Type 0 where
       pub call : WriterCall
       pub read : WasAskedFor (asked_by_call call) ⊎ WasAllAskedFor (asked_by_call call)
-      pub cut : BreaksOff (run_lines_text c (lines_before_call call)) (text_of_call call) old new
-      pub begins : (how : LiveEnd) (whole : List ℕ) → EndGets c journal results how whole → AddsPrefix whole old new
+      pub cut : BreaksOff (run_lines_text c (lines_before_call call)) (text_of_call call) written_then written_now
+      pub begins : (how : LiveEnd) (whole : List ℕ) → EndGets c journal results how whole → AddsPrefix whole written_then written_now
 
     -- memory ran out between two transitions: the lines up to there were written, none or ones that end with `complete K`, `aborted K` or an answer that came
     -- while nothing was to be done. They are a front of the text that is due
@@ -188,8 +188,8 @@ module _ (c : Cluster) (journal : Journal) (reading : Reading) (left : List ℕ)
       pub run : Runs c journal.promotions (is_none results.stop) (due 1 journal.events) (Some (answers_to_come results)) printed at behind
       pub between : IsBetween c journal.promotions (is_none results.stop) at
       pub ends : EndsBetween journal.events at printed
-      pub added : Adds old (run_lines_text c printed) new
-      pub begins : (how : LiveEnd) (whole : List ℕ) → EndGets c journal results how whole → AddsPrefix whole old new
+      pub added : Adds written_then (run_lines_text c printed) written_now
+      pub begins : (how : LiveEnd) (whole : List ℕ) → EndGets c journal results how whole → AddsPrefix whole written_then written_now
 
     -- what each end says
     abbrev pub Reaches : LiveEnd → Type 0

@@ -43,6 +43,10 @@ last_line line (result ∷ results) = last_line result.line results
 abbrev pub count_said : Coming → ℕ
 count_said coming = length coming.results + (if is_some coming.stop then 1 else 0)
 
+-- each of these logical lines has its line end, which is among its own bytes: they are whole, whatever comes behind the bytes that are held
+abbrev pub StandWhole : List (List (List ℕ)) → List ℕ → Type 0
+StandWhole lines held = (rest : List ℕ) → raw_lines (bytes_of lines ++ (held ++ rest)) ≡ lines ++ raw_lines (held ++ rest)
+
 -- some logical lines have a last one, and it says something: without it they say less
 pub record LastLineSays (c : Cluster) (from : LineReaderAt) (lines : List (List (List ℕ))) : Type 0 where
   pub front : List (List (List ℕ))
@@ -55,11 +59,12 @@ abbrev pub NoneOrLastSays : Cluster → LineReaderAt → List (List (List ℕ)) 
 NoneOrLastSays c from lines = (lines ≡ []) ⊎ LastLineSays c from lines
 
 -- these logical lines were read and answered so, and the bytes that were held and taken are theirs and those that are held now. Each byte of theirs
--- leaves less room
+-- leaves less room. Before the end of the source each of them is whole
 pub record HasRead (c : Cluster) (old new : LineReaderAt) (before after : Option (List ℕ)) (lines : List (List (List ℕ))) (given : List ResultLine) (bytes : List ℕ) : Type 0 where
   pub taken : TakesBytes before bytes after
   pub parts : old.reading.held ++ bytes ≡ bytes_of lines ++ new.reading.held
   pub cut : option_map (λ left. raw_lines (old.reading.held ++ left)) before ≡ option_map (λ left. lines ++ raw_lines (new.reading.held ++ left)) after
+  pub whole : new.reading.ended ≡ false → (old.reading.ended ≡ false) × StandWhole lines new.reading.held
   pub answered : (others : List (List (List ℕ))) → said_by c old (lines ++ others) ≡ results_first given (said_by c new others)
   pub room : length (bytes_of lines) + new.reading.room ≡ old.reading.room
   pub same_size : new.reading.longest ≡ old.reading.longest
@@ -105,13 +110,14 @@ pub data SourceFollows (old new : SourceState) (before after : Option (List ℕ)
   stays : new ≡ old → after ≡ before → SourceFollows old new before after
   answers : is_reading old.course ≡ true → HasAnswered old new before after → SourceFollows old new before after
 
--- the source of bytes failed: all lines that were taken whole were read, and what is held behind them gives no answer yet
+-- the source of bytes failed, which hadn't ended: all lines that were taken whole were read, and what is held behind them gives no answer yet
 pub record HasBroken (old new : SourceState) (before after : Option (List ℕ)) : Type 0 where
   pub lines : List (List (List ℕ))
   pub given : List ResultLine
   pub bytes : List ℕ
   pub read : HasRead old.cluster old.lines new.lines before after lines given bytes
   pub told : told_by old before ≡ option_map (λ left. results_first given (coming_to new left)) after
+  pub not_ended : new.lines.reading.ended ≡ false
   pub unfinished : holds_line new.lines.reading.held ≡ false
   pub undecided : IsUndecided new.lines.reading.room new.lines.reading.longest new.lines.reading.held
   pub why : stop_of new ≡ Some ReadFault
@@ -148,7 +154,8 @@ pub data HasQuestionFailed (exact : Bool) (old new : SourceView) : Type 0 where
   by_source : HasBroken old.state new.state old.left new.left → HasCounted exact (Unit {0}) old new → HasQuestionFailed exact old new
   by_line : HasStopped old.state new.state old.left new.left → HasCounted exact ⊥ old new → HasQuestionFailed exact old new
 
--- what the last question brought. After the end of the input none fails, and after a line that stops the reading each does
+-- what questions have read, by what the last one brought. Of an answer it says only that none failed: which one it was, `CourseAnswers` says. After the
+-- end of the input none fails, and after a line that stops the reading each does
 abbrev pub HasSaid : Bool → SourceView → SourceView → Next → Type 0
 HasSaid exact old new (next.Answer given) = HasFollowed exact old new
 HasSaid exact old new next.Silent = HasFollowed exact old new × (has_course_ended new.state.course ≡ true)

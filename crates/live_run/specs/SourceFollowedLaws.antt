@@ -76,6 +76,7 @@ module _ (a b d : SourceState) (x y z : Option (List ℕ)) (p : HasAnswered a b 
     read = read_then a.cluster a.lines b.lines x y p.lines p.given p.bytes p.read d.lines z q.lines q.given q.bytes
         (subst (λ (c : Cluster). HasRead c b.lines d.lines y z q.lines q.given q.bytes) p.cluster_stays q.read);
     told = p.told ∙ told_joined p.given q.given (coming_to b) (coming_to d) y z q.told;
+    not_ended = q.not_ended;
     unfinished = q.unfinished;
     undecided = q.undecided;
     why = q.why;

@@ -135,6 +135,7 @@ fn step<S: Source>(
     ensures gone_on { StillAmid result ((first : Reading) (given : Option (List ℕ))
         → HasHeadGoneOn first (reading_of reader.old) head.old.text.items given (S.left (source_of reader.old))
         → HasHeadGoneOn first (reading_of reader.new) head.new.text.items given (S.left (source_of reader.new))) }
+    ensures not_ended { result ≡ Some (Err HeadStop.ReadFault) → (reading_of reader.new).ended ≡ false }
     ensures amid { result ≡ Some (Err HeadStop.ReadFault) → holds_line (reading_of reader.new).held ≡ false }
     ensures undecided { result ≡ Some (Err HeadStop.ReadFault)
         → IsUndecided (reading_of reader.new).room (reading_of reader.new).longest (reading_of reader.new).held }

@@ -2,7 +2,6 @@
 use Rattle.std.proofs.Common.{◌≡◌, ℕ, ◌-◌, ◌<◌, Option, Some, None, List, [], ◌++◌, length, Ok, Err, IfSome, refl, sym, ap, subst, ◌∙◌, arith}
 use Rattle.cluster_io.specs.NextLine.{IsUndecided}
 use Rattle.cluster_io.specs.Readings.{Reading}
-use Rattle.crm_lex.specs.RawLines.{raw_lines}
 use Rattle.faults.specs.declared.fault.Fault.{Fault}
 use Rattle.faults.specs.declared.fault.Fault.TheVariants.{At}
 use Rattle.faults.specs.Reading.{UnlessMemory}
@@ -63,10 +62,7 @@ amid old new input (Some unread) e a = record {
         = subst (λ (r : Reading). Some ([] ++ (r.held ++ input)) ≡ Some (a.text ++ (new.held ++ unread))) e a.keeps in
         let whole : input ≡ a.text ++ (new.held ++ unread) = cc in
         whole ∙ ap (λ (t : List ℕ). t ++ (new.held ++ unread)) a.gone_on.taken.text_is;
-    cut =
-        let all : Some (raw_lines input) ≡ Some (a.gone_on.taken.lines ++ raw_lines (new.held ++ unread))
-        = subst (λ (r : Reading). Some (raw_lines (r.held ++ input)) ≡ Some (a.gone_on.taken.lines ++ raw_lines (new.held ++ unread))) e a.gone_on.taken.cut in
-        cc;
+    whole = (a.gone_on.taken.whole a.not_ended).1;
   };
   goes_on = subst (λ (r : Reading). heads.AllGoOnBehind r.room r.longest r.next a.gone_on.taken.lines) e a.gone_on.goes_on;
   no_answer = record {

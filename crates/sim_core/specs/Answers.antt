@@ -133,7 +133,8 @@ MayJudge nothing Output = SomeInput nothing Output NotLawful
 MayJudge whole Output = SomeInput whole Output NotLawful
 MayJudge live Output = ⊥
 
--- a status that a call may have whatever its source and its sink tell: those of a fault, of size and of memory, and those with a text
+-- a status that a call may have whatever its source and its sink tell: it may fail to read, to write or for memory, or find the input too large; and it may
+-- have a status with a text that some input gets
 abbrev pub MayAnswer : Bool → Intake → (List ℕ → Status → List ℕ → Type 0) → Status → Type 0
 MayAnswer memory kind Output Done = MayGiveStatus kind Output Done
 MayAnswer memory kind Output NoMemory = memory ≡ true

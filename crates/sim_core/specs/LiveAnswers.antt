@@ -23,16 +23,16 @@ pub record IsAmidHead (input : List ℕ) (left : Option (List ℕ)) : Type 0 whe
   pub no_answer : GivesNoAnswer (most_bytes - length (bytes_of whole.lines)) longest_line whole.held
 
 -- what the sink holds before and after
-module _ (input : List ℕ) (left before after : Option (List ℕ)) where
+module _ (input : List ℕ) (left_now written_then written_now : Option (List ℕ)) where
   -- the whole text was written that comes with this status
   pub record HasWrittenReplay (status : Status) : Type 0 where
     pub text : List ℕ
     pub due : IsReplayOutput input status text
-    pub added : Adds before text after
+    pub added : Adds written_then text written_now
 
   -- the input was read to its end, and its whole run was written
   pub record IsReplayDone : Type 0 where
-    pub at_end : IfSome left (λ bytes. bytes ≡ [])
+    pub at_end : IfSome left_now (λ bytes. bytes ≡ [])
     pub written : HasWrittenReplay Done
 
   -- the head was taken whole, and this became of the run that follows from it. Behind the head fewer than 4,096 bytes are held, and the source had the
@@ -46,18 +46,18 @@ module _ (input : List ℕ) (left before after : Option (List ℕ)) where
     pub longest : reading.longest ≡ longest_line
     pub parts : input ≡ bytes ++ (reading.held ++ unread)
     pub short : length reading.held < 4096
-    pub became : Became head.cluster head.journal reading unread left before after
+    pub became : Became head.cluster head.journal reading unread left_now written_then written_now
 
   -- the sink failed while the fault of the head was written
   pub record IsCutInRefusal : Type 0 where
     pub line : ℕ
     pub why : InputCause
     pub fault : IsHeadFault input line why
-    pub front : AddsPrefix (refusal_text line why) before after
+    pub front : AddsPrefix (refusal_text line why) written_then written_now
 
   -- the source failed, amid the head, where nothing was written, or behind it
   pub data HasReadFault : Type 0 where
-    amid_head : IsAmidHead input left → after ≡ before → HasReadFault
+    amid_head : IsAmidHead input left_now → written_now ≡ written_then → HasReadFault
     behind_head : IsBehindHead IsBrokenOff → HasReadFault
 
   -- the sink failed
@@ -67,7 +67,7 @@ module _ (input : List ℕ) (left before after : Option (List ℕ)) where
 
   -- memory ran out before anything was written, or between two transitions
   pub data RanOutOfMemory : Type 0 where
-    at_first : after ≡ before → RanOutOfMemory
+    at_first : written_now ≡ written_then → RanOutOfMemory
     between_two : IsBehindHead HasNoMemory → RanOutOfMemory
 
   -- what each status says

@@ -1,12 +1,12 @@
 -- Logical lines that are read one after the other, and what follows of it.
-use Rattle.std.proofs.Common.{◌≡◌, inl, inr, ℕ, ◌+◌, Option, Some, None, List, [], ◌∷◌, ◌++◌, length, option_map, IfSome, append-nil, append_assoc, length-append, refl, ap, sym, subst, ◌∙◌, arith}
+use Rattle.std.proofs.Common.{◌≡◌, inl, inr, ℕ, ◌+◌, false, Option, Some, None, List, [], ◌∷◌, ◌++◌, length, option_map, IfSome, append-nil, append_assoc, length-append, refl, ap, sym, subst, ◌∙◌, arith}
 use Rattle.std.specs.List.{concat}
 use Rattle.std.proofs.lemmas.Grind.{flat_map-append}
 use Rattle.cluster_io.proofs.Pieces.{Takes-then}
 use Rattle.cluster_types.specs.declared.cluster.Cluster.{Cluster}
 use Rattle.crm_lex.specs.RawLines.{raw_lines}
 use Rattle.live_run.specs.AnswersToCome.{Coming, LineReaderAt}
-use Rattle.live_run.specs.SourceFollowed.{AreNear, NoneOrLastSays, LastLineSays, HasRead, IsStoppedBy, bytes_of, count_said, results_first, said_by}
+use Rattle.live_run.specs.SourceFollowed.{AreNear, NoneOrLastSays, LastLineSays, HasRead, IsStoppedBy, StandWhole, bytes_of, count_said, results_first, said_by}
 use Rattle.run_safety.specs.TwoRuns.{IsFront}
 use Rattle.live_run.specs.Inner.ReadSteps.{HasPassed, ReadUntil}
 use Rattle.live_run.specs.declared.line_result.Came.{Came}
@@ -22,6 +22,18 @@ count_first given others = let n = length-append given others.results in omega (
 
 results_joined : (given more : List ResultLine) (others : Coming) → results_first given (results_first more others) ≡ results_first (given ++ more) others
 results_joined given more others = ap (λ (rs : List ResultLine). record { results = rs; stop = others.stop }) (sym (append_assoc given more others.results))
+
+-- whole lines, and whole lines behind them
+pub whole_then : (xs ys : List (List (List ℕ))) (held later held_now : List ℕ) → held ++ later ≡ bytes_of ys ++ held_now → StandWhole xs held → StandWhole ys held_now
+    → StandWhole (xs ++ ys) held_now
+whole_then xs ys held later held_now parts first second rest =
+    let there : held ++ (later ++ rest) ≡ bytes_of ys ++ (held_now ++ rest)
+    = sym (append_assoc held later rest) ∙ (ap (λ (t : List ℕ). t ++ rest) parts ∙ append_assoc (bytes_of ys) held_now rest) in
+    ap raw_lines (ap (λ (t : List ℕ). t ++ (held_now ++ rest)) (bytes_joined xs ys)
+    ∙ (append_assoc (bytes_of xs) (bytes_of ys) (held_now ++ rest) ∙ ap (λ (t : List ℕ). bytes_of xs ++ t) (sym there)))
+    ∙ (first (later ++ rest)
+    ∙ (ap (λ (t : List ℕ). xs ++ raw_lines t) there
+    ∙ (ap (λ (t : List (List (List ℕ))). xs ++ t) (second rest) ∙ sym (append_assoc xs ys (raw_lines (held_now ++ rest))))))
 
 -- what stands behind some of the first lines
 pub lines_joined : {X : Type 0} (xs ys : List X) (f g : List ℕ → List X) (before after : Option (List ℕ)) → option_map f before ≡ option_map (λ left. ys ++ g left) after
@@ -39,10 +51,13 @@ told_joined given more f g None (Some v) e = cc
 told_joined given more f g (Some u) None e = cc
 told_joined given more f g (Some u) (Some v) e = ap (option_map (results_first given)) e ∙ ap Some (results_joined given more (g v))
 
+none_whole : (at : LineReaderAt) → at.reading.ended ≡ false → (at.reading.ended ≡ false) × StandWhole [] at.reading.held
+none_whole at unended = (unended, λ rest. refl)
+
 module _ (c : Cluster) where
   pub read_nothing : (at : LineReaderAt) (left : Option (List ℕ)) → HasRead c at at left left [] [] []
-  read_nothing at None = record { taken = refl; parts = append-nil at.reading.held; cut = refl; answered = λ others. refl; room = omega arith; same_size = refl }
-  read_nothing at (Some left) = record { taken = refl; parts = append-nil at.reading.held; cut = refl; answered = λ others. refl; room = omega arith; same_size = refl }
+  read_nothing at None = record { taken = refl; parts = append-nil at.reading.held; cut = refl; whole = none_whole at; answered = λ others. refl; room = omega arith; same_size = refl }
+  read_nothing at (Some left) = record { taken = refl; parts = append-nil at.reading.held; cut = refl; whole = none_whole at; answered = λ others. refl; room = omega arith; same_size = refl }
 
   pub passed_nothing : (at : LineReaderAt) (left : Option (List ℕ)) → HasPassed c at at left left
   passed_nothing at left = record { lines = []; bytes = []; read = read_nothing at left; near = inl refl }
@@ -60,6 +75,10 @@ module _ (c : Cluster) where
           ∙ (ap (λ (t : List ℕ). bytes_of xs ++ t) q.parts
           ∙ (sym (append_assoc (bytes_of xs) (bytes_of ys) d.reading.held) ∙ ap (λ (t : List ℕ). t ++ d.reading.held) (sym (bytes_joined xs ys))));
       cut = r.cut ∙ lines_joined xs ys (λ left. raw_lines (b.reading.held ++ left)) (λ left. raw_lines (d.reading.held ++ left)) y z q.cut;
+      whole = λ unended.
+          let second = q.whole unended in
+          let first = r.whole second.0 in
+          (first.0, whole_then xs ys b.reading.held later d.reading.held q.parts first.1 second.1);
       answered = λ others.
           ap (said_by c a) (append_assoc xs ys others)
           ∙ (r.answered (ys ++ others) ∙ (ap (results_first given) (q.answered others) ∙ results_joined given more (said_by c d others)));
@@ -154,6 +173,7 @@ module _ (c : Cluster) where
     lines = p.lines ++ q.lines;
     bytes = p.bytes ++ q.bytes;
     read = read_then a b x y p.lines [] p.bytes p.read d z q.lines [] q.bytes q.read;
+    not_ended = q.not_ended;
     unfinished = q.unfinished;
     undecided = q.undecided;
   }

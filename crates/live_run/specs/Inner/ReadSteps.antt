@@ -30,11 +30,12 @@ pub record HasReachedEnd (c : Cluster) (old new : LineReaderAt) (before after : 
   pub read : HasRead c old new before after lines [] bytes
   pub all : AllIsRead new after
 
--- the source of bytes failed. No whole line is held, and what is held gives no answer yet
+-- the source of bytes failed, which hadn't ended. No whole line is held, and what is held gives no answer yet
 pub record HasFaltered (c : Cluster) (old new : LineReaderAt) (before after : Option (List ℕ)) : Type 0 where
   pub lines : List (List (List ℕ))
   pub bytes : List ℕ
   pub read : HasRead c old new before after lines [] bytes
+  pub not_ended : new.reading.ended ≡ false
   pub unfinished : holds_line new.reading.held ≡ false
   pub undecided : IsUndecided new.reading.room new.reading.longest new.reading.held
 

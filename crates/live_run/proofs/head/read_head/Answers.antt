@@ -44,6 +44,7 @@ returns-in-Err-clause-amid g c why =
       text = text;
       keeps = so_far.keeps ∙ now.keeps memory;
       gone_on = where_failed _ _ fault now.gone_on _ _ so_far.gone_on;
+      not_ended = now.not_ended fault;
       none_whole = now.amid fault;
       undecided = now.undecided fault;
     }

@@ -3,7 +3,7 @@ use Rattle.live_run.specs.Inner.HeadSteps.{lacks_memory}
 use Rattle.live_run.proofs.HeadBringing.{line_brings, line_can, line_keeps, line_within, long_number, too_large_brings, too_long_brings, while_well}
 use Rattle.live_run.proofs.Bringing.{fewer_left, number_is, numbers_fit, room_is}
 use Rattle.live_run.proofs.HeadLines.{amid_line, line_gone, still_gone}
-use Rattle.live_run.proofs.Stepping.{undecided_now}
+use Rattle.live_run.proofs.Stepping.{failed_open, undecided_now}
 use Rattle.live_run.proofs.head.step.Goals as goal
 
 -- a line is handed out
@@ -62,6 +62,9 @@ returns-in-Line-clause-gone_on g c =
 
 pub returns-in-Failed-clause-gone_on : goal.returns-in-Failed-clause-gone_on
 returns-in-Failed-clause-gone_on g c first given h = still_gone first _ _ _ given _ _ h (c.in-Failed.ensures.answered c.requires.can.going)
+
+pub returns-in-Failed-clause-not_ended : goal.returns-in-Failed-clause-not_ended
+returns-in-Failed-clause-not_ended g c is = failed_open _ _ _ _ (c.in-Failed.ensures.answered c.requires.can.going)
 
 pub returns-in-Failed-clause-undecided : goal.returns-in-Failed-clause-undecided
 returns-in-Failed-clause-undecided g c is = undecided_now _ _ _ _ (c.in-Failed.ensures.answered c.requires.can.going)
