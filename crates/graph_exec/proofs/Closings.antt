@@ -1,5 +1,5 @@
 -- How a transition of a run is closed, and how the run ends in its midst.
-use Rattle.std.proofs.Common.{arith, ◌≡◌, ◌⊎◌, inl, inr, ℕ, Bool, true, false, List, [], ◌∷◌, ◌++◌, append-nil, refl, sym, ap, ◌∙◌, subst}
+use Rattle.std.proofs.Common.{arith, ◌≡◌, ◌⊎◌, inl, inr, ℕ, Bool, true, false, not, List, [], ◌∷◌, ◌++◌, append-nil, refl, sym, ap, ◌∙◌, subst}
 use Rattle.std.specs.Prelude.{Option, Some, None}
 use Rattle.std.specs.List.{flat_map}
 use Rattle.cluster_types.specs.declared.run.RunLine.{RunLine}
@@ -7,17 +7,23 @@ use Rattle.cluster_types.specs.declared.journal.Answer.{Answer}
 use Rattle.cluster_types.specs.declared.journal.Event.{Event}
 use Rattle.cluster_types.specs.declared.journal.Journal.{Journal}
 use Rattle.cluster_types.specs.declared.journal.Promotion.{Promotion}
+use Rattle.cluster_types.specs.declared.placement.Placed.{Placed}
 use Rattle.cluster_types.specs.AnswersThatApply.{applies_after}
 use Rattle.cluster_types.specs.Runs.{amid, RunsOn, goes, completes, aborts, journal_at}
+use Rattle.cluster_types.specs.Safety.{IsAtRest}
 use Rattle.cluster_types.specs.Steps as steps
 use Rattle.cluster_types.specs.Steps.{Transition, StepsOn, HasEnded, IsWaiting, in_flight_by_number, has_aborted, journal, count_from_outside}
 use Rattle.cluster_types.specs.Texts.{event_lines}
 use Rattle.graph_exec.specs.KnownJournals.{KnownJournalOf}
+use Rattle.graph_exec.specs.declared.transition.ends.WatchedEnd.{WatchedEnd}
+use Rattle.graph_exec.specs.declared.transition.ends.WatchedEnd.TheVariants as how
+use Rattle.graph_exec.specs.declared.transition.watcher.Heard.TheVariants as heard
 use Rattle.graph_exec.specs.Executors.{ExecutorOf, Went, transition_in}
 use Rattle.graph_exec.specs.Inner.ExecutorFields.{running_journal}
 use Rattle.graph_exec.specs.WatcherLines.{closing_line}
-use Rattle.graph_exec.specs.Transitions.{IsAborted, IsComplete, IsCutBy, WentAsSaid, WentBeforeSaid}
-use Rattle.graph_exec.specs.WatchedTransitions.{IsWatcherCutOff, IsWatcherCutOffAsking, AreLinesTold}
+use Rattle.graph_exec.specs.Promises.{EndsWell, IsGraphPlanned}
+use Rattle.graph_exec.specs.Transitions.{EndsAs, HasSaidAll, IsCutBy, WentAsSaid, WentBeforeSaid, WentByEnd}
+use Rattle.graph_exec.specs.WatchedTransitions.{IsWatcherCutOff, IsWatcherCutOffAsking, AreLinesTold, IsToldUpTo, heard_at}
 use Rattle.graph_exec.proofs.Beginning.{found_so}
 use Rattle.graph_exec.proofs.Said.{taken_none}
 use Rattle.run_safety.proofs.SoFar.{runs_once}
@@ -36,110 +42,127 @@ at_closed : (k : ℕ) (complete : Bool) (es : List Event) → es ≡ journal_at 
 at_closed k true es = refl
 at_closed k false es = refl
 
+-- the transition has ended by itself: complete, or aborted
+abbrev pub IsClosed : WatchedEnd → Bool → Type 0
+IsClosed how.Complete complete = complete ≡ true
+IsClosed (how.Aborted event) complete = complete ≡ false
+IsClosed _ complete = ⊥
+
+-- and so it went on to its end, all of which was told
+pub record HasClosed (whole steady : Bool) (r now : ExecutorOf) (rest left : Option (List Answer)) (over_now : Bool) (First : List RunLine → Type 0) (end : WatchedEnd)
+    (complete : Bool) : Type 0 where
+  pub went : Went whole r now rest left
+  pub told : AreLinesTold First r now
+  pub said : steady ≡ true → over_now ≡ false → WentAsSaid r now rest left
+  pub ended : HasEnded (transition_in now) now.since
+  pub aborted : has_aborted (transition_in now) now.since ≡ not complete
+  pub rests : (placed : Placed) → IsGraphPlanned now placed → IsAtRest (now.planned_at ++ now.since)
+  pub heard : heard_at end ≡ heard.Go
+
+pub has_closed : (whole steady : Bool) (r now : ExecutorOf) (rest left : Option (List Answer)) (over over_now : Bool) (First : List RunLine → Type 0)
+    (Stopped : List RunLine → Option RunLine → Type 0) (end : WatchedEnd) (complete : Bool) → IsClosed end complete → WentByEnd whole r now rest left end
+    → IsToldUpTo First Stopped whole r now rest left (heard_at end) → (steady ≡ true → HasSaidAll r now rest left over over_now end) → EndsAs now end → EndsWell now end
+    → HasClosed whole steady r now rest left over_now First end complete
+has_closed whole steady r now rest left over over_now First Stopped how.Complete complete is went told said ends well = record {
+  went = went;
+  told = told;
+  said = λ always open_still. (said always).to_end open_still tt;
+  ended = ends.ended;
+  aborted = ends.unaborted ∙ ap not (sym is);
+  rests = λ placed planned. (well placed planned).0;
+  heard = refl;
+}
+has_closed whole steady r now rest left over over_now First Stopped (how.Aborted event) complete is went told said ends well = record {
+  went = went;
+  told = told;
+  said = λ always open_still. (said always).to_end open_still tt;
+  ended = ends.ended;
+  aborted = found_so (steps.aborts now.cluster) now.since (Some event) ends.first_is ∙ ap not (sym is);
+  rests = well;
+  heard = refl;
+}
+has_closed whole steady r now rest left over over_now First Stopped (how.Unexpected given) complete is went told said ends well = absurd is
+has_closed whole steady r now rest left over over_now First Stopped how.SourceFault complete is went told said ends well = absurd is
+has_closed whole steady r now rest left over over_now First Stopped how.Stopped complete is went told said ends well = absurd is
+
 module _ (whole steady : Bool) (k : ℕ) (r now : ExecutorOf) (fresh : r.since ≡ []) (rest left : Option (List Answer)) (over over_now : Bool) where
   abbrev here_set : Setting
   here_set = setting r.cluster r.promotions whole steady
 
-  module _ (went : Went whole r now rest left) where
-    same_going : transition_in now ≡ transition_in r
-    same_going = ap transition_in went.same
+  -- the line that closes it is a step of the run
+  closed_step : (complete : Bool) → transition_in now ≡ transition_in r → HasEnded (transition_in now) now.since → has_aborted (transition_in now) now.since ≡ not complete
+      → (w : Bool) (xs : Option (List Answer))
+      → RunsOn r.cluster r.promotions w (amid k (transition_in r) now.since) xs (closing_line k complete ∷ []) (closed_at k complete (journal (transition_in r) now.since)) xs
+  closed_step true same ended aborted w xs =
+      completes k (transition_in r) now.since xs (subst (λ (t : Transition). HasEnded t now.since) same ended)
+      (subst (λ (t : Transition). has_aborted t now.since ≡ false) same aborted)
+  closed_step false same ended aborted w xs =
+      aborts k (transition_in r) now.since xs (subst (λ (t : Transition). HasEnded t now.since) same ended)
+      (subst (λ (t : Transition). has_aborted t now.since ≡ true) same aborted)
 
-    module _ (First : List RunLine → Type 0) (told : AreLinesTold First r now) where
-      went_here : (steady ≡ true → over_now ≡ false → WentAsSaid r now rest left)
-          → HasComeTo First here_set (amid k (transition_in r) []) (sight rest over) (sight left over_now) (amid k (transition_in r) now.since)
-      went_here said = came_carried here_set k r now fresh First rest left over over_now went told said
+  module _ (First : List RunLine → Type 0) (end : WatchedEnd) (complete : Bool) (h : HasClosed whole steady r now rest left over_now First end complete) where
+    step : (w : Bool) (xs : Option (List Answer))
+        → RunsOn r.cluster r.promotions w (amid k (transition_in r) now.since) xs (closing_line k complete ∷ []) (closed_at k complete (journal (transition_in r) now.since)) xs
+    step = closed_step complete (ap transition_in h.went.same) h.ended h.aborted
 
-      module _ (complete : Bool)
-          (step : (w : Bool) (xs : Option (List Answer)) → RunsOn r.cluster r.promotions w (amid k (transition_in r) now.since) xs (closing_line k complete ∷ []) (closed_at k complete (journal (transition_in r) now.since)) xs) where
-        closed_to : (Then All : List RunLine → Type 0) → ((lines more : List RunLine) → First lines → Then more → All (lines ++ more))
-            → (steady ≡ true → over_now ≡ false → WentAsSaid r now rest left) → Then (closing_line k complete ∷ []) → (j : KnownJournalOf) → j ≡ running_journal now
-            → CameTo All here_set (amid k (transition_in r) []) (sight rest over) (sight left over_now) (closed_at k complete) j
-        closed_to Then All join said closed j is =
-            let events : j.events ≡ journal (transition_in r) now.since = ap (λ (x : KnownJournalOf). x.events) is ∙ ap (λ (x : ExecutorOf). x.planned_at ++ now.since) went.same in
-            let whole_way = came_on here_set First Then All join (amid k (transition_in r) []) (amid k (transition_in r) now.since) (sight rest over) (sight left over_now) (sight left over_now)
-            (went_here said) (closed_at k complete (journal (transition_in r) now.since)) (λ steady h. h)
-            (came_step here_set Then (amid k (transition_in r) now.since) (closed_at k complete (journal (transition_in r) now.since)) (sight left over_now) (sight left over_now)
-            (closing_line k complete ∷ []) (step whole left) closed
-            (λ steady open_still. record {
-              answers = [];
-              runs = λ ys. runs_once r.cluster r.promotions false _ _ (Some ys) (Some ys) _ (step false (Some ys));
-              taken = taken_none left;
-            })) in
-            record {
-              cluster_stays = ap (λ (x : KnownJournalOf). x.cluster) is ∙ ap (λ (x : ExecutorOf). x.cluster) went.same;
-              promotions_stay = ap (λ (x : KnownJournalOf). x.promotions) is ∙ ap (λ (x : ExecutorOf). x.promotions) went.same;
-              came = subst (λ (es : List Event). HasComeTo All here_set (amid k (transition_in r) []) (sight rest over) (sight left over_now) (closed_at k complete es)) (sym events) whole_way;
-            }
-
-        closed_short : (All : List RunLine → Type 0) (StopThen Stopped : List RunLine → Option RunLine → Type 0)
-            → ((lines more : List RunLine) (at : Option RunLine) → First lines → StopThen more at → Stopped (lines ++ more) at) → StopThen [] (Some (closing_line k complete))
-            → (j : Journal) → j ≡ left_of now → EndsStopped All here_set (amid k (transition_in r) []) (sight rest over) (sight left over_now) k Stopped j
-        closed_short All StopThen Stopped stop stopped j is = record {
-          before = amid k (transition_in r) now.since;
-          next = closed_at k complete (journal (transition_in r) now.since);
-          middle = left;
-          lines = flat_map event_lines now.since;
-          call = closing_line k complete ∷ [];
-          runs = part_runs r.cluster r.promotions whole k (transition_in r) r.since now.since rest left fresh went.steps;
-          step = step whole left;
-          told = record {
-            before = [];
-            at = closing_line k complete;
-            behind = [];
-            parts = refl;
-            stopped = stop (flat_map event_lines now.since) [] (Some (closing_line k complete)) (part_told here_set k r now fresh First told) stopped;
-          };
-          leaves = is ∙ ap (left_with now.since) went.same
-              ∙ ap (with_events r.promotions) (at_closed k complete (journal (transition_in r) now.since));
-          few = omega arith;
+    pub closes : (Then All : List RunLine → Type 0) → ((lines more : List RunLine) → First lines → Then more → All (lines ++ more)) → Then (closing_line k complete ∷ [])
+        → (j : KnownJournalOf) → j ≡ running_journal now
+        → CameTo All here_set (amid k (transition_in r) []) (sight rest over) (sight left over_now) (closed_at k complete) j
+    closes Then All join closed j is =
+        let events : j.events ≡ journal (transition_in r) now.since = ap (λ (x : KnownJournalOf). x.events) is ∙ ap (λ (x : ExecutorOf). x.planned_at ++ now.since) h.went.same in
+        let whole_way = came_on here_set First Then All join (amid k (transition_in r) []) (amid k (transition_in r) now.since) (sight rest over) (sight left over_now) (sight left over_now)
+        (came_carried here_set k r now fresh First rest left over over_now h.went h.told h.said) (closed_at k complete (journal (transition_in r) now.since)) (λ always over_still. over_still)
+        (came_step here_set Then (amid k (transition_in r) now.since) (closed_at k complete (journal (transition_in r) now.since)) (sight left over_now) (sight left over_now)
+        (closing_line k complete ∷ []) (step whole left) closed
+        (λ always open_still. record {
+          answers = [];
+          runs = λ ys. runs_once r.cluster r.promotions false _ _ (Some ys) (Some ys) _ (step false (Some ys));
+          taken = taken_none left;
+        })) in
+        record {
+          cluster_stays = ap (λ (x : KnownJournalOf). x.cluster) is ∙ ap (λ (x : ExecutorOf). x.cluster) h.went.same;
+          promotions_stay = ap (λ (x : KnownJournalOf). x.promotions) is ∙ ap (λ (x : ExecutorOf). x.promotions) h.went.same;
+          came = subst (λ (es : List Event). HasComeTo All here_set (amid k (transition_in r) []) (sight rest over) (sight left over_now) (closed_at k complete es)) (sym events) whole_way;
         }
 
-      complete_step : IsComplete now → (w : Bool) (xs : Option (List Answer))
-          → RunsOn r.cluster r.promotions w (amid k (transition_in r) now.since) xs (closing_line k true ∷ []) (closed_at k true (journal (transition_in r) now.since)) xs
-      complete_step e w xs =
-          completes k (transition_in r) now.since xs (subst (λ (t : Transition). HasEnded t now.since) same_going e.ended)
-          (subst (λ (t : Transition). has_aborted t now.since ≡ false) same_going e.unaborted)
+    -- the watcher stops at that line
+    pub stops_closing : (All : List RunLine → Type 0) (StopThen Stopped : List RunLine → Option RunLine → Type 0)
+        → ((lines more : List RunLine) (at : Option RunLine) → First lines → StopThen more at → Stopped (lines ++ more) at) → StopThen [] (Some (closing_line k complete))
+        → (j : Journal) → j ≡ left_of now → EndsStopped All here_set (amid k (transition_in r) []) (sight rest over) (sight left over_now) k Stopped j
+    stops_closing All StopThen Stopped stop stopped j is = record {
+      before = amid k (transition_in r) now.since;
+      next = closed_at k complete (journal (transition_in r) now.since);
+      middle = left;
+      lines = flat_map event_lines now.since;
+      call = closing_line k complete ∷ [];
+      runs = part_runs r.cluster r.promotions whole k (transition_in r) r.since now.since rest left fresh h.went.steps;
+      step = step whole left;
+      told = record {
+        before = [];
+        at = closing_line k complete;
+        behind = [];
+        parts = refl;
+        stopped = stop (flat_map event_lines now.since) [] (Some (closing_line k complete)) (part_told here_set k r now fresh First h.told) stopped;
+      };
+      leaves = is ∙ ap (left_with now.since) h.went.same ∙ ap (with_events r.promotions) (at_closed k complete (journal (transition_in r) now.since));
+      few = omega arith;
+    }
 
-      aborted_step : (first : Event) → IsAborted now first → (w : Bool) (xs : Option (List Answer))
-          → RunsOn r.cluster r.promotions w (amid k (transition_in r) now.since) xs (closing_line k false ∷ []) (closed_at k false (journal (transition_in r) now.since)) xs
-      aborted_step first e w xs =
-          aborts k (transition_in r) now.since xs (subst (λ (t : Transition). HasEnded t now.since) same_going e.ended)
-          (subst (λ (t : Transition). has_aborted t now.since ≡ true) same_going (found_so (steps.aborts now.cluster) now.since (Some first) e.first_is))
-
-      module _ (Then All : List RunLine → Type 0) (join : (lines more : List RunLine) → First lines → Then more → All (lines ++ more)) where
-        pub closes_complete : IsComplete now → (steady ≡ true → over_now ≡ false → WentAsSaid r now rest left) → Then (closing_line k true ∷ [])
-            → (j : KnownJournalOf) → j ≡ running_journal now → CameTo All here_set (amid k (transition_in r) []) (sight rest over) (sight left over_now) (closed_at k true) j
-        closes_complete e said closed j is = closed_to true (complete_step e) Then All join said closed j is
-
-        pub closes_aborted : (first : Event) → IsAborted now first → (steady ≡ true → over_now ≡ false → WentAsSaid r now rest left)
-            → Then (closing_line k false ∷ []) → (j : KnownJournalOf) → j ≡ running_journal now
-            → CameTo All here_set (amid k (transition_in r) []) (sight rest over) (sight left over_now) (closed_at k false) j
-        closes_aborted first e said closed j is = closed_to false (aborted_step first e) Then All join said closed j is
-
-      module _ (All : List RunLine → Type 0) (StopThen Stopped : List RunLine → Option RunLine → Type 0)
-          (stop : (lines more : List RunLine) (at : Option RunLine) → First lines → StopThen more at → Stopped (lines ++ more) at) where
-        pub stops_complete : IsComplete now → StopThen [] (Some (closing_line k true)) → (j : Journal) → j ≡ left_of now
-            → EndsStopped All here_set (amid k (transition_in r) []) (sight rest over) (sight left over_now) k Stopped j
-        stops_complete e stopped j is = closed_short true (complete_step e) All StopThen Stopped stop stopped j is
-
-        pub stops_aborted : (first : Event) → IsAborted now first → StopThen [] (Some (closing_line k false)) → (j : Journal) → j ≡ left_of now
-            → EndsStopped All here_set (amid k (transition_in r) []) (sight rest over) (sight left over_now) k Stopped j
-        stops_aborted first e stopped j is = closed_short false (aborted_step first e) All StopThen Stopped stop stopped j is
-
-      -- the source failed
-      pub broken : IsWaiting (transition_in now) now.since → (steady ≡ true → WentAsSaid r now rest left) → (steady ≡ true → over ≡ false) → (j : Journal) → j ≡ left_of now
-          → EndsBroken First here_set (amid k (transition_in r) []) (sight rest over) (sight left over_now) k j
-      broken waiting said not_over j is = record {
-        last = amid k (transition_in r) now.since;
-        lines = flat_map event_lines now.since;
-        runs = part_runs r.cluster r.promotions whole k (transition_in r) r.since now.since rest left fresh went.steps;
-        told = part_told here_set k r now fresh First told;
-        asking = subst (λ (t : Transition). IsWaiting t now.since) same_going waiting;
-        said = λ always. part_said here_set k r now fresh rest left (said always);
-        not_over = not_over;
-        leaves = is ∙ ap (left_with now.since) went.same;
-        few = omega arith;
-      }
+  -- the source failed
+  pub broken : Went whole r now rest left → (First : List RunLine → Type 0) → AreLinesTold First r now → IsWaiting (transition_in now) now.since
+      → (steady ≡ true → WentAsSaid r now rest left) → (steady ≡ true → over ≡ false) → (j : Journal) → j ≡ left_of now
+      → EndsBroken First here_set (amid k (transition_in r) []) (sight rest over) (sight left over_now) k j
+  broken went First told waiting said not_over j is = record {
+    last = amid k (transition_in r) now.since;
+    lines = flat_map event_lines now.since;
+    runs = part_runs r.cluster r.promotions whole k (transition_in r) r.since now.since rest left fresh went.steps;
+    told = part_told here_set k r now fresh First told;
+    asking = subst (λ (t : Transition). IsWaiting t now.since) (ap transition_in went.same) waiting;
+    said = λ always. part_said here_set k r now fresh rest left (said always);
+    not_over = not_over;
+    leaves = is ∙ ap (left_with now.since) went.same;
+    few = omega arith;
+  }
 
   -- an answer came that doesn't apply
   pub cut : (Follows : List RunLine → Type 0) (given : Answer) → WentBeforeSaid whole r now rest left given → AreLinesTold Follows r now → IsCutBy now given → (j : Journal)

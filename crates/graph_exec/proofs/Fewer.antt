@@ -33,11 +33,6 @@ not_before p xs ys h =
     contrary (list_any p xs) (list_any p xs || list_any p ys) (or_left (list_any p xs) (list_any p ys)) (ap not (sym (list_any-append p xs ys)) ∙ h)
 
 module _ (r : ExecutorOf) (es : List Event) where
-  pub begins_fewer : begins_left (running.later r es) ≤ begins_left r
-  begins_fewer =
-      count_more (λ k. not (has_begun (transition_in r) (r.since ++ es) k)) (λ k. not (has_begun (transition_in r) r.since k))
-      (λ k h. not_before (begins_number k) r.since es h) (numbers (transition_in r))
-
   pub ends_fewer : ends_left (running.later r es) ≤ ends_left r
   ends_fewer =
       count_more (λ k. not (has_number_ended (transition_in r) (r.since ++ es) k)) (λ k. not (has_number_ended (transition_in r) r.since k))

@@ -19,7 +19,6 @@ use Rattle.cluster_types.specs.Sources.{Says, told}
 use Rattle.cluster_types.specs.Steps.{Applies, answer_events, idling}
 use Rattle.cluster_types.specs.Texts.{all_passed_lines, event_lines}
 use Rattle.graph_exec.specs.KnownJournals.{KnownJournalOf}
-use Rattle.graph_exec.specs.IdleClusters.{TookIdle}
 use Rattle.graph_exec.specs.SourceDuties.{TakesAnswers}
 use Rattle.graph_exec.proofs.Said.{taken_one}
 use Rattle.run_safety.specs.KeptLines.{AreWithin}
@@ -29,7 +28,7 @@ use Rattle.run_safety.proofs.Rests.{at_rest, in_order}
 use Rattle.run_safety.proofs.SoFar.{runs_joined, runs_once}
 use Rattle.graph_exec.specs.declared.run.stop.ReplayStop.{ReplayStop}
 use Rattle.graph_exec.specs.declared.run.stop.ReplayStop.TheVariants as stop
-use Rattle.graph_exec.specs.Inner.KeptTransitions.{IsUnanswered, KeepsPassed, KeepsEnd, KeepsTo, kept_end}
+use Rattle.graph_exec.specs.Inner.KeptTransitions.{IsUnanswered, KeepsEnd, KeepsPassed, KeepsTo, TookIdle, kept_end}
 use Rattle.graph_exec.specs.KeptRuns.{IsPassedOfPlan, KeepsAs, KeepsPlans}
 use Rattle.graph_exec.specs.Replays.{Setting, AgreesWith, IsReplayExpected, IsJournalKept, OfMade}
 use Rattle.graph_exec.specs.Inner.Turns.{IsSaid, journal_back, plain_of}

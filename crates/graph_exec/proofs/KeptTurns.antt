@@ -34,7 +34,6 @@ use Rattle.graph_exec.proofs.Said.{taken_none}
 use Rattle.run_safety.proofs.Kept.{one_passed_more}
 use Rattle.run_safety.proofs.SoFar.{runs_joined, runs_once}
 use Rattle.graph_exec.specs.declared.run.stop.ReplayStop.{ReplayStop}
-use Rattle.graph_exec.specs.declared.run.idling.Taken.{Taken}
 use Rattle.graph_exec.specs.declared.run.planning.Planned.{Planned}
 use Rattle.graph_exec.specs.Inner.KeptTransitions.{IsAnswered, IsUnanswered, KeepsPassed, KeepsCut, KeepsEnd, KeepsSoFar, KeepsTo}
 use Rattle.graph_exec.specs.KeptRuns.{IsPassedOfPlan, StandsSo}
@@ -187,14 +186,14 @@ module _ (j : KnownJournalOf) (p : Planned) (ready : IsReady j p) (whole steady 
 
         -- an answer came while nothing was to be done
         pub goes_on_answered : how ≡ passed_as.Complete → IsComplete now → (later : KnownJournalOf) → later ≡ running_journal now → (unread : Option (List Answer)) (over_then : Bool)
-            → (steady ≡ true → over_now ≡ true → over_then ≡ true) → (taken : Taken) → IsAnswered whole later left unread taken
-            → KeepsTo here_set es first unread over_then all taken.journal
-        goes_on_answered e complete later known unread over_then still taken w =
+            → (steady ≡ true → over_now ≡ true → over_then ≡ true) → (given : Answer) (next : KnownJournalOf) → IsAnswered whole later left unread given next
+            → KeepsTo here_set es first unread over_then all next
+        goes_on_answered e complete later known unread over_then still given next w =
             let longer = one_longer in
-            subst (λ (k : ℕ). KeepsPassed here_set es first unread over_then all (due k taken.journal.events)) (omega (arith, longer))
+            subst (λ (k : ℕ). KeepsPassed here_set es first unread over_then all (due k next.events)) (omega (arith, longer))
             (kept_answered here_set es first left unread over_now all (1 + length passed) later
             (ap (λ (x : KnownJournalOf). x.cluster) known ∙ ap (λ (r : ExecutorOf). r.cluster) went_fresh.same) (idle_there e complete later known)
-            over_then still (omega (arith, longer)) taken.answer w.said taken.journal w.took)
+            over_then still (omega (arith, longer)) given w.said next w.took)
 
         -- none came that applies
         pub ends_unanswered_there : how ≡ passed_as.Complete → IsComplete now → (later : KnownJournalOf) → later ≡ running_journal now → (unread : Option (List Answer))

@@ -52,9 +52,6 @@ pub record Losing (before now : ExecutorOf) (n place : ℕ) : Type 0 where
   pub moment : moment_of (now.planned_at ++ now.since) ≡ moment_of (before.planned_at ++ before.since)
 
 module _ (before : ExecutorOf) (n : ℕ) where
-  pub losing_first : Losing before before n 0
-  losing_first = record { so_far = []; is = rw (append-nil before.since) refl; sum = refl; moment = refl }
-
   module _ (now : ExecutorOf) (place : ℕ) (l : Losing before now n place) where
     module _ (k : ℕ) (a : Action) (s : StandsAt now place k a) where
       ahead : drop place (numbers_in_flight (transition_in now) now.since) ≡ k ∷ drop (place + 1) (numbers_in_flight (transition_in now) now.since)

@@ -10,12 +10,11 @@ use Rattle.cluster_types.specs.Runs.{RunStanding, due, idle, answers, Runs, here
 use Rattle.cluster_types.specs.Sources.{Says, told, used_up, untold}
 use Rattle.cluster_types.specs.Steps.{answer_events, idling}
 use Rattle.graph_exec.specs.KnownJournals.{KnownJournalOf}
-use Rattle.graph_exec.specs.IdleClusters.{IsRefusedIdle, TookIdle}
 use Rattle.graph_exec.proofs.Said.{taken_one}
 use Rattle.run_safety.proofs.SoFar.{runs_once}
 use Rattle.graph_exec.specs.declared.run.stop.ReplayStop.{ReplayStop}
 use Rattle.graph_exec.specs.declared.run.stop.ReplayStop.TheVariants as stop
-use Rattle.graph_exec.specs.Inner.KeptTransitions.{HasIdleFailed, IsAnswered, IsIdleRefused, IsSilent, IsUnanswered}
+use Rattle.graph_exec.specs.Inner.KeptTransitions.{IsRefusedIdle, IsUnanswered, TookIdle}
 use Rattle.graph_exec.specs.Replays.{Setting, setting, sight}
 use Rattle.graph_exec.specs.Inner.Turns.{HasComeTo, CameTo, RunEndsAs, EndsBroken, RunEndsCut, EndsStopped, EndsStoppedAsking, EndsWhole, IsSaid, plain_of}
 use Rattle.graph_exec.proofs.Joined.{came_step, said_none}
@@ -135,19 +134,3 @@ module _ (whole steady : Bool) (k : ℕ) (j : KnownJournalOf) (rest : Option (Li
       ends_unanswered none Stopped (Err (stop.Stopped journal)) w = absurd w
       ends_unanswered none Stopped (Err (stop.Most journal)) w = absurd w
       ends_unanswered none Stopped (Err stop.NoMemory) same = record { at = idle k j.events; lines = []; runs = runs_nowhere same; told = none; between = tt; few = omega arith }
-
--- what came of the question, put together
-module _ (whole : Bool) (j : KnownJournalOf) (rest left : Option (List Answer)) where
-  pub idle_answered : (given : Answer) (next : KnownJournalOf) → Says whole rest (Some given) left → TookIdle j next given
-      → IsAnswered whole j rest left (record { answer = given; journal = next })
-  idle_answered given next said took = record { said = said; took = took }
-
-  pub idle_refused : (given : Answer) → Says whole rest (Some given) left → (back : KnownJournalOf) → IsRefusedIdle j back given → (journal : Journal)
-      → journal ≡ plain_of back → IsIdleRefused whole j rest left journal given
-  idle_refused given said back refused journal leaves = record { said = said; back = back; refused = refused; leaves = leaves }
-
-  pub idle_silent : Says whole rest None left → (journal : Journal) → journal ≡ plain_of j → IsSilent whole j rest left journal
-  idle_silent said journal leaves = record { said = said; leaves = leaves }
-
-  pub idle_failed : (over : Bool) → left ≡ rest → over ≡ false → (journal : Journal) → journal ≡ plain_of j → HasIdleFailed whole j rest left over journal
-  idle_failed over same not_over journal leaves = record { left_is = same; not_over = not_over; leaves = leaves }

@@ -15,14 +15,14 @@ use Rattle.cluster_types.specs.Steps.{Transition}
 use Rattle.cluster_types.specs.Valid.{IsValid}
 use Rattle.graph_exec.specs.KnownJournals.{KnownJournalOf}
 use Rattle.graph_exec.specs.Promises.{IsGraphPlanned}
-use Rattle.graph_exec.specs.Executors.{ExecutorOf, Went, transition_in}
+use Rattle.graph_exec.specs.Executors.{ExecutorOf, Went, transition_in, fresh_on}
 use Rattle.graph_exec.specs.Inner.ExecutorFields.{running_journal}
 use Rattle.graph_exec.specs.WatcherLines.{StopsAmong, plan_lines}
 use Rattle.graph_exec.specs.Transitions.{Accords}
 use Rattle.graph_exec.specs.declared.run.planning.Planned.{Planned}
 use Rattle.graph_exec.specs.declared.run.stop.ReplayStop.{ReplayStop}
 use Rattle.graph_exec.specs.Replays.{Setting, AnswersView, setting, sight}
-use Rattle.graph_exec.specs.Inner.Turns.{HasComeTo, CameTo, RunEndsAs, EndsStopped, HasPlannedGraph, IsReady, fresh_on, left_of}
+use Rattle.graph_exec.specs.Inner.Turns.{HasComeTo, CameTo, RunEndsAs, EndsStopped, HasPlannedGraph, IsReady, left_of}
 use Rattle.graph_exec.proofs.Joined.{came_on, ends_on}
 use Rattle.graph_exec.proofs.Named.{reasons_named}
 use Rattle.graph_exec.proofs.Rests.{accords_first, accords_last, stays_there}

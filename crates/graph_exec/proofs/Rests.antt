@@ -52,9 +52,6 @@ module _ (agrees : Cluster → List Event → ℕ → Type 0) where
     by true e = absurd (refused (subst (λ (x : List Event). applies_after c x [] 0 given ≡ true) (sym (append-nil es)) e))
     by false e = e
 
-pub never_refused : (c : Cluster) (es : List Event) (given : Answer) → applies_after c es [] 0 given ≡ true → ¬ Applies (idling c es) [] given → ⊥
-never_refused c es given applies refused = refused (subst (λ (x : List Event). applies_after c x [] 0 given ≡ true) (sym (append-nil es)) applies)
-
 -- the plan is still that of the transition, and once it has ended its journal is at rest
 module _ (whole : Bool) (r now : ExecutorOf) (rest left : Option (List Answer)) (went : Went whole r now rest left) where
   planned_still : (placed : Placed) → IsGraphPlanned r placed → IsGraphPlanned now placed

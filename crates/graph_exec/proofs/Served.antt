@@ -9,7 +9,6 @@ use Rattle.cluster_types.specs.Graphs.{GraphOf}
 use Rattle.cluster_types.specs.Plans.{CarriesOut}
 use Rattle.cluster_types.specs.UnpackedStates.{states_of}
 use Rattle.planner.specs.PlanForJournal.{AreTold, IsPlanned}
-use Rattle.graph_exec.specs.declared.run.planning.KeptPlan.{KeptPlan}
 use Rattle.graph_exec.specs.Inner.Turns.{Serves}
 
 -- a plan that was made for some states
@@ -18,10 +17,10 @@ module _ (c : Cluster) (states : States) (plan : Plan) (told : AreTold c states)
   pub made_for : plan.states ≡ states
   made_for = (made told.events told.promotions told.told).states ∙ sym told.told
 
-  pub serves_made : Serves c (record { states = plan.states; placed = plan.placed; graph = plan.graph })
+  pub serves_made : Serves c plan
   serves_made es promotions tells = (made es promotions (sym made_for ∙ tells)).carries_out
 
-pub serves_again : (c : Cluster) (plan : KeptPlan) (graph : GraphOf) → graph ≡ plan.graph → Serves c plan
-    → Serves c (record { states = plan.states; placed = plan.placed; graph = graph })
+pub serves_again : (c : Cluster) (plan : Plan) (graph : GraphOf) → graph ≡ plan.graph → Serves c plan
+    → Serves c (record { states = plan.states; rights = plan.rights; placed = plan.placed; graph = graph })
 serves_again c plan graph same serves es promotions tells =
     subst (λ (g : GraphOf). CarriesOut c es promotions plan.placed g) (sym same) (serves es promotions tells)

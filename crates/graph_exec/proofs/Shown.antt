@@ -19,14 +19,13 @@ use Rattle.graph_exec.specs.declared.run.stop.ReplayStop.{ReplayStop}
 use Rattle.graph_exec.specs.declared.run.stop.ReplayStop.TheVariants as stop
 use Rattle.graph_exec.specs.declared.transition.watcher.Heard.{Heard}
 use Rattle.graph_exec.specs.declared.transition.watcher.Heard.TheVariants as heard
-use Rattle.graph_exec.specs.Inner.KeptTransitions.{IsUnanswered}
+use Rattle.graph_exec.specs.Inner.KeptTransitions.{IsUnanswered, TookIdle}
 use Rattle.graph_exec.specs.declared.transition.ends.WatchedEnd.{WatchedEnd}
 use Rattle.graph_exec.specs.declared.transition.ends.WatchedEnd.TheVariants as how
 use Rattle.graph_exec.specs.Inner.Rounds.{Answered, StopsAs}
 use Rattle.graph_exec.specs.Inner.Turns.{IsReady}
 use Rattle.graph_exec.specs.KnownJournals.{KnownJournalOf}
 use Rattle.graph_exec.specs.Replays.{IsShownEnd, IsShownTo}
-use Rattle.graph_exec.specs.IdleClusters.{TookIdle}
 use Rattle.graph_exec.specs.Executors.{ExecutorOf, IsUnderWay, transition_in, later}
 use Rattle.graph_exec.specs.WatcherLines.{RunView, view_amid, view_between, view_later}
 use Rattle.graph_exec.specs.Transitions.{EndedByItself}

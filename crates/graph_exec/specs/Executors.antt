@@ -10,6 +10,7 @@ use Rattle.cluster_types.specs.AnswersThatApply.{applies_after}
 use Rattle.cluster_types.specs.Graphs.{GraphOf, IsGraph}
 use Rattle.cluster_types.specs.Plans.{transition_on}
 use Rattle.cluster_types.specs.Steps.{Transition, Goes, Begins, TakesAnswer, is_settled, count_from_outside, answer_events, in_flight_by_number}
+use Rattle.graph_exec.specs.KnownJournals.{KnownJournalOf}
 
 -- the cluster, the graph that is carried out, the journal when it was planned with the promotion scores of the status, and the events since
 pub record ExecutorOf : Type 0 where
@@ -22,6 +23,10 @@ pub record ExecutorOf : Type 0 where
 -- the transition
 abbrev pub transition_in : ExecutorOf → Transition
 transition_in r = transition_on r.cluster r.graph r.planned_at
+
+-- nothing of the graph has begun, for this journal
+abbrev pub fresh_on : KnownJournalOf → GraphOf → ExecutorOf
+fresh_on j g = record { cluster = j.cluster; graph = g; planned_at = j.events; since = []; promotions = j.promotions }
 
 -- the same, some events later
 abbrev pub later : ExecutorOf → List Event → ExecutorOf

@@ -6,4 +6,3 @@ pub mod Logs
 pub mod Rounds
 pub mod ExecutorFields
 pub mod Turns
-pub mod LastHeard

@@ -3,7 +3,6 @@ pub mod ReadyActions
 pub mod KnownJournals
 pub mod Flights
 pub mod Executors
-pub mod IdleClusters
 pub mod SourceDuties
 pub mod Scripts
 pub mod WatcherLines

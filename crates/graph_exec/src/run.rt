@@ -1,7 +1,6 @@
 //! A run: transition after transition, told as it goes, or kept.
 
 // How a run ends.
-pub mod run_ending;
 pub mod stop;
 
 // One transition of a run, from its plan to what comes right after it.

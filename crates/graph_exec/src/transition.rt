@@ -5,7 +5,6 @@ pub mod meaning;
 
 // Which actions of a graph may begin, as others succeed.
 pub mod queue;
-pub mod roots;
 pub mod waiting;
 
 // What is kept of a transition: its journal, and which actions are in flight.
@@ -22,9 +21,7 @@ pub mod watcher;
 // A transition, step by step.
 pub mod applying;
 pub mod course;
-pub mod ending;
 pub mod executor;
-pub mod idle_cluster;
 pub mod taking;
 
 // A transition over a source, to its end.

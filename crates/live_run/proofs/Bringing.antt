@@ -13,17 +13,16 @@ use Rattle.crm_lex.specs.RawLines.{physical_lines, raw_lines}
 use Rattle.crm_lex.specs.declared.fault.LexCause.TheVariants.{LineTooLong}
 use Rattle.crm_lex.proofs.PhysicalLines.{concat-lines, few_lines}
 use Rattle.live_run.specs.AnswersToCome.{AreReady, Coming, LineReaderAt, coming, coming_of, no_more, said_first}
-use Rattle.live_run.specs.Inner.ComingSteps.{Brings, answers_in, came_first, is_stop_last, said_came, told_coming}
+use Rattle.live_run.specs.Inner.ComingSteps.{Brings, answers_in, came_first, said_came, told_coming}
 use Rattle.live_run.specs.LineSays.{line_says, place_behind_said, line_says_within, sized_says}
 use Rattle.live_run.specs.Inner.LineFits.{SaidFits}
-use Rattle.live_run.specs.declared.line_result.Came.{Came}
-use Rattle.live_run.specs.declared.line_result.Came.TheVariants as came
+use Rattle.live_run.specs.declared.result_reader.Came.TheVariants as came
 use Rattle.live_run.specs.declared.line_stop.LineCause.TheVariants as cause
 use Rattle.live_run.specs.declared.line_stop.LineStop.{LineStop}
 use Rattle.live_run.specs.declared.line_stop.LineStop.TheVariants as why
 use Rattle.live_run.specs.declared.place.Place.{Place}
-use Rattle.live_run.specs.declared.line_meaning.Said.{Said}
-use Rattle.live_run.specs.declared.line_meaning.Said.TheVariants as said
+use Rattle.live_run.specs.declared.line_saying.Said.{Said}
+use Rattle.live_run.specs.declared.line_saying.Said.TheVariants as said
 use Rattle.live_run.proofs.Cuts.{CutAt, cut_at, cut_of}
 
 -- the place and the reading
@@ -128,25 +127,6 @@ pub line_brings : (c : Cluster) (at : Place) (old new : Reading) (before after :
 line_brings c at old new before None a = ap (option_map (coming_of c (lines_at at old))) a.taken
 line_brings c at old new before (Some left) a = ap (option_map (coming_of c (lines_at at old))) a.taken ∙ ap Some (line_whole c at old new before left a)
 
--- nothing is left
-pub end_brings : (c : Cluster) (at : Place) (old new : Reading) (before after : Option (List ℕ)) → ReaderAnswered End old new before after
-    → Brings c (Some came.End) (lines_at at old) (lines_at at new) before after
-end_brings c at old new before None a = ap (option_map (coming_of c (lines_at at old))) a.taken
-end_brings c at old new before (Some left) a =
-    let text : old.held ++ (a.bytes ++ left) ≡ []
-    = sym (append_assoc old.held a.bytes left) ∙ (ap (λ (t : List ℕ). (old.held ++ a.bytes) ++ t) (a.at_end a.leaves.2) ∙ ap (λ (t : List ℕ). t ++ []) a.leaves.1) in
-    ap (option_map (coming_of c (lines_at at old))) a.taken
-    ∙ ap (λ (t : List ℕ). Some (coming c old.longest at old.room (raw_lines t))) text
-
--- the source failed, and what it gave before is held
-pub fault_brings : (c : Cluster) (at : Place) (old new : Reading) (before after : Option (List ℕ)) → ReaderAnswered Failed old new before after
-    → Brings c (Some came.Fault) (lines_at at old) (lines_at at new) before after
-fault_brings c at old new before None a = ap (option_map (coming_of c (lines_at at old))) a.taken
-fault_brings c at old new before (Some left) a =
-    ap (option_map (coming_of c (lines_at at old))) a.taken
-    ∙ ap (λ (t : List ℕ). Some (coming c old.longest at old.room (raw_lines t))) (sym (append_assoc old.held a.bytes left))
-    ∙ ap (λ (r : Reading). Some (coming c r.longest at r.room (raw_lines (r.held ++ left)))) (sym a.leaves.0)
-
 -- a line isn't given, by its size
 stops_text : (c : Cluster) (longest : ℕ) (at : Place) (room : ℕ) (text : List ℕ) (step : LineStep) (w : LineStop)
     → ((lines : List (List ℕ)) → sized_says c at step lines ≡ said.Stop w) → (step ≡ End → ⊥) → step ≡ reader_answer room longest text
@@ -200,49 +180,11 @@ long_number at old new before after a r =
     let some = long_room old.room old.longest ((old.held ++ a.bytes) ++ []) (a.exact (λ e. cc) [] (λ _. refl)) in
     omega (arith, r.line, r.numbered, some)
 
--- where no line is handed out, the places stay
-same_ready : (at : Place) (old new : Reading) → new.next ≡ old.next → new.room ≡ old.room → AreReady (lines_at at old) → AreReady (lines_at at new)
-same_ready at old new next room r = record {
-  moment = r.moment;
-  few = r.few;
-  line = r.line ∙ sym next;
-  numbered = let n = r.numbered in omega (arith, next, room, n);
-}
-
-pub stays_ready : (step : LineStep) (at : Place) (old new : Reading) (before after : Option (List ℕ)) → ReaderAnswered step old new before after → (step ≡ Line → ⊥)
-    → AreReady (lines_at at old) → AreReady (lines_at at new)
-stays_ready Line at old new before after a other r = absurd (other refl)
-stays_ready End at old new before after a other r =
-    same_ready at old new (ap (λ (x : Reading). x.next) a.leaves.0) (ap (λ (x : Reading). x.room) a.leaves.0) r
-stays_ready TooLong at old new before after a other r =
-    same_ready at old new (ap (λ (x : Reading). x.next) a.leaves) (ap (λ (x : Reading). x.room) a.leaves) r
-stays_ready TooLarge at old new before after a other r =
-    same_ready at old new (ap (λ (x : Reading). x.next) a.leaves) (ap (λ (x : Reading). x.room) a.leaves) r
-stays_ready Failed at old new before after a other r =
-    same_ready at old new (ap (λ (x : Reading). x.next) a.leaves.0) (ap (λ (x : Reading). x.room) a.leaves.0) r
-
-pub end_going : (old new : Reading) (before after : Option (List ℕ)) → ReaderAnswered End old new before after → new.stop ≡ old.stop
-end_going old new before after a = ap (λ (x : Reading). x.stop) a.leaves.0
-
-pub fault_going : (old new : Reading) (before after : Option (List ℕ)) → ReaderAnswered Failed old new before after → new.stop ≡ old.stop
-fault_going old new before after a = ap (λ (x : Reading). x.stop) a.leaves.0
-
 -- how many answers a line gives
 pub before_behind : (at : Place) (s : Said) (lines : ℕ) → (place_behind_said at s lines).before ≡ at.before + answers_in (said_came at.line s)
 before_behind at said.Nothing lines = omega arith
 before_behind at (said.Answer given) lines = refl
 before_behind at (said.Stop w) lines = omega arith
-
--- a line that stops is the last
-pub said_last : (at : Place) (s : Said) → SaidFits at s → is_stop_last (said_came at.line s) ≡ true
-said_last at said.Nothing fits = refl
-said_last at (said.Answer given) fits = refl
-said_last at (said.Stop w) fits = fits
-
--- a line without words, and what follows brings what came of both
-pub brings_on : (c : Cluster) (old middle new : LineReaderAt) (before between after : Option (List ℕ)) (found : Option Came) → told_coming c old before ≡ told_coming c middle between
-    → Brings c found middle new between after → Brings c found old new before after
-brings_on c old middle new before between after found first more = first ∙ more
 
 pub none_brings : (c : Cluster) (old new : LineReaderAt) (before after : Option (List ℕ)) → Brings c None old new before after → told_coming c old before ≡ told_coming c new after
 none_brings c old new before None b = b

@@ -27,9 +27,10 @@ use Rattle.run_safety.proofs.OneEnd.{before_stuck, cut_one, whole_one, whole_or_
 use Rattle.run_safety.proofs.OneStep.{ended_waits}
 use Rattle.run_safety.proofs.PlansAreOne.{plans_one}
 use Rattle.run_safety.proofs.SoFar.{so_far_one, so_far_or_cut, step_asks, nothing_said}
+use Rattle.live_run.proofs.Behind.{answer_in}
 
-abbrev answer_in : ResultLine → Answer
-answer_in r = r.answer
+longer : (xs ys : List ResultLine) (z : ResultLine) → length ys ≡ length (xs ++ z ∷ ys) → ⊥
+longer xs ys z h = let sum = length-append xs (z ∷ ys) in omega (arith, h, sum)
 
 -- the line of an answer is found by how many stand behind it
 one_split : (first other back behind : List ResultLine) (r q : ResultLine) → first ++ r ∷ back ≡ other ++ q ∷ behind → length back ≡ length behind → r ≡ q
@@ -39,17 +40,11 @@ one_split (x ∷ first) (y ∷ other) back behind r q e n =
 one_split [] (y ∷ other) back behind r q e n =
     let tail : back ≡ other ++ q ∷ behind = cc in
     let size = ap length tail in
-    absurd (more other behind q (omega (arith, size, n)))
-  where
-    more : (xs ys : List ResultLine) (z : ResultLine) → length ys ≡ length (xs ++ z ∷ ys) → ⊥
-    more xs ys z h = let sum = length-append xs (z ∷ ys) in omega (arith, h, sum)
+    absurd (longer other behind q (omega (arith, size, n)))
 one_split (x ∷ first) [] back behind r q e n =
     let tail : first ++ r ∷ back ≡ behind = cc in
     let size = ap length tail in
-    absurd (more first back r (omega (arith, size, n)))
-  where
-    more : (xs ys : List ResultLine) (z : ResultLine) → length ys ≡ length (xs ++ z ∷ ys) → ⊥
-    more xs ys z h = let sum = length-append xs (z ∷ ys) in omega (arith, h, sum)
+    absurd (longer first back r (omega (arith, size, n)))
 
 map_size : (xs : List ResultLine) → length (map answer_in xs) ≡ length xs
 map_size [] = refl
@@ -107,9 +102,7 @@ module _ (c : Cluster) (journal : Journal) (coming : Coming) where
       let runs_false = subst (λ z. Runs c journal.promotions (is_none z) (due 1 journal.events) told lines at behind) g.stop runs in
       subst (IsFront (run_lines_text c lines)) (sym g.printed)
       (text_front c lines g.lines (begins_so_far c journal.promotions journal.events (answers_to_come coming) at behind lines g.lines g.run.journal_now runs_false g.run.run))
-  begins_due at behind lines end.ReadFault text runs g = absurd g
-  begins_due at behind lines end.WriteFault text runs g = absurd g
-  begins_due at behind lines end.NoMemory text runs g = absurd g
+  begins_due at behind lines how text runs g = absurd g
 
   abbrev AreOne : LiveEnd → List ℕ → LiveEnd → List ℕ → Type 0
   AreOne one text other also = (one ≡ other) × (text ≡ also)
@@ -147,6 +140,9 @@ module _ (c : Cluster) (journal : Journal) (coming : Coming) where
       whole_or_cut c journal.promotions true (plans_one c journal.promotions) journal.events told tt a.journal_now b.journal_now lines others result.answer (Some (map answer_in b.behind)) a.run
       (subst (λ z. IsCutRun c journal.promotions (is_none z) journal.events told others b.journal_now result.answer (Some (map answer_in b.behind))) a.all b.run)
 
+  refused_or_large : {R : Type 0} (n : ℕ) (a : LineCause) → coming.stop ≡ Some (why.Refused n a) → coming.stop ≡ Some why.TooLarge → R
+  refused_or_large n a e f = let wrong : ⊥ = cc in absurd wrong
+
   same_refusal : (n m : ℕ) (a b : LineCause) → coming.stop ≡ Some (why.Refused n a) → coming.stop ≡ Some (why.Refused m b) → line_refusal_text n a ≡ line_refusal_text m b
   same_refusal n m a b e f =
       let line : n ≡ m = cc in let cause : a ≡ b = cc in ap (λ (k : ℕ). line_refusal_text k a) line ∙ ap (line_refusal_text m) cause
@@ -169,29 +165,13 @@ module _ (c : Cluster) (journal : Journal) (coming : Coming) where
     g.printed ∙ (ap (λ (ls : List RunLine). run_lines_text c ls ++ line_refusal_text g.line g.cause) (more_one g.lines h.lines g.run h.run)
         ∙ (ap (λ (t : List ℕ). run_lines_text c h.lines ++ t) (same_refusal g.line h.line g.cause h.cause g.stop h.stop) ∙ sym h.printed)),
   )
-  one_end end.Refused end.TooLarge text also g h = let wrong : ⊥ = differ g.line g.cause g.stop h.stop in absurd wrong
-    where
-      differ : (n : ℕ) (a : LineCause) → coming.stop ≡ Some (why.Refused n a) → coming.stop ≡ Some why.TooLarge → ⊥
-      differ n a e f = cc
+  one_end end.Refused end.TooLarge text also g h = refused_or_large g.line g.cause g.stop h.stop
   one_end end.TooLarge end.Done text also g h = none_some _ h.run.all g.stop
   one_end end.TooLarge end.Unexpected text also g h = more_or_cut g.lines h.lines h.given h.result _ g.stop g.run h.run
-  one_end end.TooLarge end.Refused text also g h = let wrong : ⊥ = differ h.line h.cause h.stop g.stop in absurd wrong
-    where
-      differ : (n : ℕ) (a : LineCause) → coming.stop ≡ Some (why.Refused n a) → coming.stop ≡ Some why.TooLarge → ⊥
-      differ n a e f = cc
+  one_end end.TooLarge end.Refused text also g h = refused_or_large h.line h.cause h.stop g.stop
   one_end end.TooLarge end.TooLarge text also g h = (refl, g.printed ∙ (ap (run_lines_text c) (more_one g.lines h.lines g.run h.run) ∙ sym h.printed))
-  one_end end.ReadFault other text also g h = absurd g
-  one_end end.WriteFault other text also g h = absurd g
-  one_end end.NoMemory other text also g h = absurd g
-  one_end end.Done end.ReadFault text also g h = absurd h
-  one_end end.Done end.WriteFault text also g h = absurd h
-  one_end end.Done end.NoMemory text also g h = absurd h
-  one_end end.Unexpected end.ReadFault text also g h = absurd h
-  one_end end.Unexpected end.WriteFault text also g h = absurd h
-  one_end end.Unexpected end.NoMemory text also g h = absurd h
-  one_end end.Refused end.ReadFault text also g h = absurd h
-  one_end end.Refused end.WriteFault text also g h = absurd h
-  one_end end.Refused end.NoMemory text also g h = absurd h
-  one_end end.TooLarge end.ReadFault text also g h = absurd h
-  one_end end.TooLarge end.WriteFault text also g h = absurd h
-  one_end end.TooLarge end.NoMemory text also g h = absurd h
+  one_end end.Done other text also g h = absurd h
+  one_end end.Unexpected other text also g h = absurd h
+  one_end end.Refused other text also g h = absurd h
+  one_end end.TooLarge other text also g h = absurd h
+  one_end one other text also g h = absurd g

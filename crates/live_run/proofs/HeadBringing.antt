@@ -1,5 +1,6 @@
 -- What one answer of a reader of lines brings of the head of an input.
 use Rattle.std.proofs.Common.{◌≡◌, ℕ, ◌+◌, ◌-◌, ◌^◌, ◌≤◌, ◌<◌, Bool, true, false, if◌then◌else◌, Option, Some, None, Result, Ok, Err, List, [], ◌∷◌, ◌++◌, length, length-append, option_map, append_assoc, refl, ap, subst, sym, ◌∙◌, arith}
+use Rattle.std.specs.Bool.{then_some}
 use Rattle.std.specs.List.{concat}
 use Rattle.std.proofs.lemmas.List.Sums.{sum_by-cons}
 use Rattle.cluster_io.specs.NextLine.{reader_answer, first_line_of, line_answer}
@@ -13,11 +14,10 @@ use Rattle.crm_lex.specs.declared.fault.LexCause.{LexCause}
 use Rattle.crm_lex.specs.declared.fault.LexCause.TheVariants.{LineTooLong}
 use Rattle.crm_lex.proofs.PhysicalLines.{concat-lines, few_lines}
 use Rattle.faults.specs.declared.fault.Fault.{Fault}
-use Rattle.faults.specs.declared.fault.Fault.TheVariants.{At, NoMemory}
 use Rattle.input_reading.specs.declared.input.cause.InputCause.TheVariants.{Words}
 use Rattle.live_run.specs.SourceFollowed.{bytes_of, count_lines}
 use Rattle.live_run.specs.Heads.{AllGoOnBehind, CanGoOn, HeadFound, KeepsBytes, LineOfHead, begins_results, ends_head, goes_on_behind, has_bad_words, head_behind, head_found, line_by_size, line_by_words, line_of_head, passes_limit, so_far, refused, taken, too_large, found_by}
-use Rattle.live_run.specs.Inner.HeadSteps.{BringsHead, came_to, lacks_memory, WhileWell, stop_for}
+use Rattle.live_run.specs.Inner.HeadSteps.{BringsHead, came_to, lacks_memory, WhileWell}
 use Rattle.live_run.specs.declared.head.HeadStop.{HeadStop}
 use Rattle.live_run.specs.declared.head.HeadStop.TheVariants as stop
 use Rattle.live_run.proofs.Bringing.{handed_answer, handed_cut, long_room, longest_is, next_is, numbers_fit, room_is, some_if, stop_is}
@@ -26,22 +26,16 @@ use Rattle.live_run.proofs.Cuts.{cut_of}
 -- what the words say that were read of a line
 pub words_said : (read : Result (List (List ℕ)) (Fault LexCause)) (words : Kept) (ends : Bool) (came : Option (Result (Unit {0}) HeadStop))
     → (done : Unit {0}) → without_words read ≡ Ok done → words ≡ kept_of read → ((all : List (List ℕ)) → words ≡ kept all → ends ≡ begins_results all)
-    → came ≡ (if ends then Some (Ok tt) else None) → (text : List ℕ) (reading : Reading) (others : HeadFound)
+    → came ≡ then_some ends (Ok tt) → (text : List ℕ) (reading : Reading) (others : HeadFound)
     → came_to came text reading others ≡ found_by (line_by_words read) (taken text reading.next reading.room) others
 words_said (Ok all) words ends came done ok is begins by text reading others =
     ap (λ (k : Option (Result (Unit {0}) HeadStop)). came_to k text reading others) by ∙ split ends (begins all is)
   where
-    split : (e : Bool) → e ≡ begins_results all → came_to (if e then Some (Ok tt) else None) text reading others
+    split : (e : Bool) → e ≡ begins_results all → came_to (then_some e (Ok tt)) text reading others
         ≡ found_by (if begins_results all then ends_head else goes_on_behind) (taken text reading.next reading.room) others
     split true h = ap (λ (t : Bool). found_by (if t then ends_head else goes_on_behind) (taken text reading.next reading.room) others) h
     split false h = ap (λ (t : Bool). found_by (if t then ends_head else goes_on_behind) (taken text reading.next reading.room) others) h
 words_said (Err fault) words ends came done ok is begins by text reading others = cc
-
-pub words_stop : (read : Result (List (List ℕ)) (Fault LexCause)) (fault : Fault LexCause) → without_words read ≡ Err fault → (text : List ℕ) (reading : Reading) (others : HeadFound)
-    → came_to (Some (Err (stop_for fault))) text reading others ≡ found_by (line_by_words read) (taken text reading.next reading.room) others
-words_stop (Ok all) fault e text reading others = cc
-words_stop (Err (At line why)) fault e text reading others = cc
-words_stop (Err NoMemory) fault e text reading others = cc
 
 -- what a line says that is handed out
 pub line_is : (longest room n : ℕ) (raw : List ℕ) → line_answer room longest (physical_lines raw) ≡ Line
@@ -143,26 +137,6 @@ line_can old new before after a can = record {
       omega (arith, next, room, fit, in_room, numbered, few);
 }
 
--- nothing is left
-pub end_brings : (text : List ℕ) (old new : Reading) (before after : Option (List ℕ)) → ReaderAnswered End old new before after
-    → BringsHead (Some (Ok tt)) (so_far text old) (so_far text new) before after
-end_brings text old new before None a memory = ap (option_map (head_behind text old)) a.taken
-end_brings text old new before (Some left) a memory =
-    let bytes : old.held ++ (a.bytes ++ left) ≡ []
-    = sym (append_assoc old.held a.bytes left) ∙ (ap (λ (t : List ℕ). (old.held ++ a.bytes) ++ t) (a.at_end a.leaves.2) ∙ ap (λ (t : List ℕ). t ++ []) a.leaves.1) in
-    ap (option_map (head_behind text old)) a.taken
-    ∙ ap (λ (t : List ℕ). Some (head_found old.longest text old.room old.next (raw_lines t))) bytes
-    ∙ ap (λ (r : Reading). Some (taken text r.next r.room)) (sym a.leaves.0)
-
--- the source failed, and what it gave before is held
-pub fault_brings : (text : List ℕ) (old new : Reading) (before after : Option (List ℕ)) → ReaderAnswered Failed old new before after
-    → BringsHead (Some (Err stop.ReadFault)) (so_far text old) (so_far text new) before after
-fault_brings text old new before None a memory = ap (option_map (head_behind text old)) a.taken
-fault_brings text old new before (Some left) a memory =
-    ap (option_map (head_behind text old)) a.taken
-    ∙ ap (λ (t : List ℕ). Some (head_found old.longest text old.room old.next (raw_lines t))) (sym (append_assoc old.held a.bytes left))
-    ∙ ap (λ (r : Reading). Some (head_found r.longest text r.room r.next (raw_lines (r.held ++ left)))) (sym a.leaves.0)
-
 -- a line isn't given, by its size
 stops_text : (text : List ℕ) (longest room n : ℕ) (bytes : List ℕ) (step : LineStep) (h : HeadFound)
     → ((raw : List ℕ) (ends goes_on : HeadFound) → found_by (line_by_size step n raw) ends goes_on ≡ h) → (step ≡ End → ⊥) → step ≡ reader_answer room longest bytes
@@ -205,15 +179,6 @@ long_number old new before after a can =
     let some = long_room old.room old.longest ((old.held ++ a.bytes) ++ []) (a.exact (λ e. cc) [] (λ _. refl)) in
     omega (arith, can.numbered, some)
 
--- where no line is handed out, the bytes and the number stay
-held_stays : (step : LineStep) (old new : Reading) (before after : Option (List ℕ)) (a : ReaderAnswered step old new before after) → (step ≡ Line → ⊥)
-    → new.held ≡ old.held ++ a.bytes
-held_stays Line old new before after a other = absurd (other refl)
-held_stays End old new before after a other = ap (λ (r : Reading). r.held) a.leaves.0
-held_stays TooLong old new before after a other = ap (λ (r : Reading). r.held) a.leaves
-held_stays TooLarge old new before after a other = ap (λ (r : Reading). r.held) a.leaves
-held_stays Failed old new before after a other = ap (λ (r : Reading). r.held) a.leaves.0
-
 pub next_stays : (step : LineStep) (old new : Reading) (before after : Option (List ℕ)) → ReaderAnswered step old new before after → (step ≡ Line → ⊥)
     → new.next ≡ old.next
 next_stays Line old new before after a other = absurd (other refl)
@@ -221,25 +186,6 @@ next_stays End old new before after a other = ap (λ (r : Reading). r.next) a.le
 next_stays TooLong old new before after a other = ap (λ (r : Reading). r.next) a.leaves
 next_stays TooLarge old new before after a other = ap (λ (r : Reading). r.next) a.leaves
 next_stays Failed old new before after a other = ap (λ (r : Reading). r.next) a.leaves.0
-
-pub keeps : (step : LineStep) (text : List ℕ) (old new : Reading) (before after : Option (List ℕ)) → ReaderAnswered step old new before after → (step ≡ Line → ⊥)
-    → KeepsBytes (so_far text old) (so_far text new) before after
-keeps step text old new before None a other = ap (option_map (λ (left : List ℕ). text ++ (old.held ++ left))) a.taken
-keeps step text old new before (Some left) a other =
-    ap (option_map (λ (left : List ℕ). text ++ (old.held ++ left))) a.taken
-    ∙ ap (λ (t : List ℕ). Some (text ++ t))
-    (sym (append_assoc old.held a.bytes left) ∙ ap (λ (t : List ℕ). t ++ left) (sym (held_stays step old new before (Some left) a other)))
-
-pub end_can : (old new : Reading) (before after : Option (List ℕ)) → ReaderAnswered End old new before after → CanGoOn old → CanGoOn new
-end_can old new before after a can = record {
-  longest = ap (λ (r : Reading). r.longest) a.leaves.0 ∙ can.longest;
-  going = ap (λ (r : Reading). r.stop) a.leaves.0 ∙ can.going;
-  numbered =
-      let next = ap (λ (r : Reading). r.next) a.leaves.0 in
-      let room = ap (λ (r : Reading). r.room) a.leaves.0 in
-      let numbered = can.numbered in
-      omega (arith, next, room, numbered);
-}
 
 pub while_well : (came : Option (Result (Unit {0}) HeadStop)) (P : Type 0) → P → WhileWell came P
 while_well None P p = p

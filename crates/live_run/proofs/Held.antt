@@ -17,8 +17,8 @@ use Rattle.live_run.specs.AnswersAtHand.{HoldsResultLine}
 use Rattle.live_run.specs.Inner.ComingSteps.{said_came}
 use Rattle.live_run.specs.LineSays.{answer_says, line_says, read_says, words_say}
 use Rattle.live_run.specs.declared.place.Place.{Place}
-use Rattle.live_run.specs.declared.line_meaning.Said.{Said}
-use Rattle.live_run.specs.declared.line_meaning.Said.TheVariants as said
+use Rattle.live_run.specs.declared.line_saying.Said.{Said}
+use Rattle.live_run.specs.declared.line_saying.Said.TheVariants as said
 
 came_none : (held bytes : List ℕ) → CameBy held bytes → holds_line held ≡ true → bytes ≡ []
 came_none held _ nothing_came h = refl

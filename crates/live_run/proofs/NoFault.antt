@@ -16,8 +16,8 @@ use Rattle.live_run.specs.LineSays.{answer_says, is_last, line_says_within, plac
 use Rattle.live_run.specs.declared.line_stop.LineCause.TheVariants as cause
 use Rattle.live_run.specs.declared.line_stop.LineStop.TheVariants as why
 use Rattle.live_run.specs.declared.place.Place.{Place}
-use Rattle.live_run.specs.declared.line_meaning.Said.{Said}
-use Rattle.live_run.specs.declared.line_meaning.Said.TheVariants as said
+use Rattle.live_run.specs.declared.line_saying.Said.{Said}
+use Rattle.live_run.specs.declared.line_saying.Said.TheVariants as said
 use Rattle.live_run.proofs.Asked.{last_no_fault}
 use Rattle.live_run.proofs.Fitting.{refused_last}
 

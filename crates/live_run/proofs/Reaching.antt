@@ -1,11 +1,12 @@
 -- What a run over result lines has read and written at each of its ends.
-use Rattle.std.proofs.Common.{◌≡◌, ◌≢◌, ◌⊎◌, ◌↔◌, inl, inr, ℕ, ◌-◌, Bool, true, false, Option, Some, None, List, [], ◌∷◌, ◌++◌, is_none, map, option_map, IfSome, length, append_assoc, append-nil, refl, ap, sym, subst, ◌∙◌, arith}
+use Rattle.std.proofs.Common.{◌≡◌, ◌≢◌, ◌⊎◌, ◌↔◌, inl, inr, ℕ, ◌-◌, ◌≤◌, Bool, true, false, Option, Some, None, Result, Ok, Err, List, [], ◌∷◌, ◌++◌, is_none, map, option_map, IfSome, length, append_assoc, append-nil, refl, ap, sym, subst, ◌∙◌, arith}
 use Rattle.std.proofs.lemmas.Grind.{flat_map-append}
 use Rattle.std.proofs.lemmas.List.{append_cancel_right, map-append}
 use Rattle.std.proofs.lemmas.Option.{same_Some}
 use Rattle.cluster_io.specs.NextLine.{IsUndecided}
 use Rattle.cluster_io.specs.Readings.{Reading}
 use Rattle.cluster_io.specs.Streams.{Adds, AddsPrefix}
+use Rattle.cluster_io.specs.declared.sink.WriteFault.{WriteFault}
 use Rattle.cluster_types.specs.declared.cluster.Cluster.{Cluster}
 use Rattle.cluster_types.specs.declared.journal.Answer.{Answer}
 use Rattle.cluster_types.specs.declared.journal.Event.{Event}
@@ -21,7 +22,7 @@ use Rattle.live_run.specs.Courses.{SourceState, answers_to_come, in_course, rest
 use Rattle.live_run.specs.SourceFollowed.{AreNear, NoneOrLastSays, SourceFollows, HasBroken, HasQuestionFailed, HasStopped, SourceView, by_line, by_source, bytes_of, results_first, said_by}
 use Rattle.live_run.specs.LineSays.{is_last}
 use Rattle.live_run.specs.LineCauses.{line_refusal_text}
-use Rattle.live_run.specs.Inner.Fronts.{adds_none, front_prefix, prefix_first, short_behind, whole_prefix}
+use Rattle.live_run.specs.Inner.Fronts.{adds_none, front_prefix, prefix_first, short_behind, short_first, whole_prefix}
 use Rattle.live_run.proofs.Written.{all_left, all_out, none_left}
 use Rattle.live_run.specs.declared.course.Course.{Course}
 use Rattle.live_run.specs.declared.course.Course.TheVariants as course
@@ -29,7 +30,7 @@ use Rattle.live_run.specs.declared.line_stop.LineStop.{LineStop}
 use Rattle.live_run.specs.declared.line_stop.LineStop.TheVariants as why
 use Rattle.live_run.specs.Ends.{AsksForMore, EndGets, IsDueEnd, WholeRunGives, run_lines_text}
 use Rattle.live_run.specs.RunReached.{IsBrokenOff, HasSinkFailed, Reaches, of_held_back, in_run, of_refusal, of_unexpected, results_behind}
-use Rattle.live_run.specs.Inner.RunEnds.{EndsCut, EndsDone, EndsLines, EndsWithoutMemory}
+use Rattle.live_run.specs.Inner.RunEnds.{EndsLines, end_as}
 use Rattle.live_run.specs.declared.live_end.LiveEnd.{LiveEnd}
 use Rattle.live_run.specs.declared.live_end.LiveEnd.TheVariants as end
 use Rattle.live_run.proofs.Behind.{answer_in}
@@ -37,7 +38,7 @@ use Rattle.live_run.proofs.Dues.{begins_due, one_end}
 use Rattle.input_reading.specs.declared.results.result_lines.ResultLine.{ResultLine}
 use Rattle.graph_exec.specs.Replays.{setting, sight}
 use Rattle.graph_exec.proofs.Whole.{asks_still}
-use Rattle.live_run.specs.HeldAndWritten.{BreaksOff, GoesOut, last_text}
+use Rattle.live_run.specs.HeldAndWritten.{BreaksOff, GoesOut, Puts, PutsLast, last_text, most_held}
 use Rattle.graph_exec.specs.Replays as replays
 use Rattle.graph_exec.specs.RunEnds.{in_failure, unexpected, with_all}
 use Rattle.run_safety.specs.TwoRuns.{IsFront, at_first}
@@ -117,9 +118,9 @@ module _ (c : Cluster) (journal : Journal) (reading : Reading) where
 
     done_reached : (before after old middle new : Option (List ℕ)) (held : List ℕ) (t : SourceState) (was is : Bool) (j : Journal) → Tells old middle held
         → replays.IsTold Follows Stopped (along before after old middle t was is) journal.events (sight (rest_of (told_by start before)) was) (sight (rest_of (told_by t after)) is) most j with_all
-        → SourceFollows start t before after → (how : LiveEnd) → EndsDone held how middle new → reaches before after old new t was is how
-    done_reached None after old middle new held t was is j tells w f how e = tt
-    done_reached (Some left) after old middle new held t was is j tells w f how e = by how e
+        → SourceFollows start t before after → (r : Result (Unit {0}) WriteFault) → Puts r held middle new → length held ≤ most_held → reaches before after old new t was is (end_as end.Done r)
+    done_reached None after old middle new held t was is j tells w f r e few = tt
+    done_reached (Some left) after old middle new held t was is j tells w f r e few = by r e
       where
         all : Coming
         all = results_behind c journal reading left
@@ -129,40 +130,37 @@ module _ (c : Cluster) (journal : Journal) (reading : Reading) where
             subst (λ (x : Option (List Answer)). Runs c journal.promotions (is_none all.stop) (due 1 journal.events) (Some (answers_to_come all)) w.lines w.ended.run.last x) (sym w.ended.unread)
             w.ended.run.steps
 
-        by : (k : LiveEnd) → EndsDone held k middle new → Reaches c journal reading left after old new k
-        by end.Done put = record {
+        by : (q : Result (Unit {0}) WriteFault) → Puts q held middle new → Reaches c journal reading left after old new (end_as end.Done q)
+        by (Ok done) put = record {
           text = run_lines_text c w.lines;
           gets = record { lines = w.lines; run = whole_by all w.lines j.events w.ended.run; printed = refl };
           added = all_left (run_lines_text c w.lines) held old middle new (tells w.lines w.told) put;
         }
-        by end.WriteFault put =
+        by (Err fault) put =
             rest_cut left after old new t f w.lines w.ended.run.last runs (inr (over_between (is_none all.stop) w.ended.run.last w.ended.run.behind w.ended.run.over))
-            (short_behind (run_lines_text c w.lines) [] held [] old middle new (tells w.lines w.told) put)
-        by end.Unexpected put = absurd put
-        by end.Refused put = absurd put
-        by end.TooLarge put = absurd put
-        by end.ReadFault put = absurd put
-        by end.NoMemory put = absurd put
+            (short_behind (run_lines_text c w.lines) [] held [] old middle new (tells w.lines w.told) (short_first held [] middle new put few))
 
     -- behind a run that is cut
     unexpected_reached : (before after old middle new : Option (List ℕ)) (held : List ℕ) (t : SourceState) (was is : Bool) (j : Journal) (a : Answer) → Tells old middle held
         → replays.IsTold Follows Stopped (along before after old middle t was is) journal.events (sight (rest_of (told_by start before)) was) (sight (rest_of (told_by t after)) is) most j (unexpected a)
-        → SourceFollows start t before after → (how : LiveEnd) → EndsCut held (run_line c (line.Unexpected t.line)) how middle new → reaches before after old new t was is how
-    unexpected_reached None after old middle new held t was is j a tells w f how e = tt
-    unexpected_reached (Some left) after old middle new held t was is j a tells w f how e =
+        → SourceFollows start t before after → (r : Result (Unit {0}) WriteFault) → PutsLast r (run_line c (line.Unexpected t.line)) held middle new
+        → reaches before after old new t was is (end_as end.Unexpected r)
+    unexpected_reached None after old middle new held t was is j a tells w f r e = tt
+    unexpected_reached (Some left) after old middle new held t was is j a tells w f r e =
         let cut = cut_by c journal reading left after t w.lines j.events a w.ended f in
-        by cut how (subst (λ (n : ℕ). EndsCut held (run_line c (line.Unexpected n)) how middle new) cut.line e)
+        by cut r (subst (λ (n : ℕ). PutsLast r (run_line c (line.Unexpected n)) held middle new) cut.line e)
       where
         text_is : (cut : CutBy c journal reading left after t w.lines) → EndGets c journal (results_behind c journal reading left) end.Unexpected (run_lines_text c w.lines ++ run_line c (line.Unexpected cut.result.line))
         text_is cut = record { lines = w.lines; given = cut.given; result = cut.result; run = cut.run; printed = refl }
 
-        by : (cut : CutBy c journal reading left after t w.lines) (how : LiveEnd) → EndsCut held (run_line c (line.Unexpected cut.result.line)) how middle new → Reaches c journal reading left after old new how
-        by cut end.Unexpected put = record {
+        by : (cut : CutBy c journal reading left after t w.lines) (q : Result (Unit {0}) WriteFault) → PutsLast q (run_line c (line.Unexpected cut.result.line)) held middle new
+            → Reaches c journal reading left after old new (end_as end.Unexpected q)
+        by cut (Ok done) put = record {
           text = run_lines_text c w.lines ++ run_line c (line.Unexpected cut.result.line);
           gets = text_is cut;
           added = all_out (run_lines_text c w.lines) held old middle new (tells w.lines w.told) (run_line c (line.Unexpected cut.result.line)) put;
         }
-        by cut end.WriteFault put =
+        by cut (Err fault) put =
             let short = short_behind (run_lines_text c w.lines) [] held (run_line c (line.Unexpected cut.result.line)) old middle new (tells w.lines w.told) put in
             record {
               call = of_unexpected (record { printed = w.lines; given = cut.given; result = cut.result; run = cut.run });
@@ -173,11 +171,6 @@ module _ (c : Cluster) (journal : Journal) (reading : Reading) where
                   (one_end c journal (results_behind c journal reading left) end.Unexpected other (run_lines_text c w.lines ++ run_line c (line.Unexpected cut.result.line)) whole (text_is cut) gets).1
                   short.front;
             }
-        by cut end.Done put = absurd put
-        by cut end.Refused put = absurd put
-        by cut end.TooLarge put = absurd put
-        by cut end.ReadFault put = absurd put
-        by cut end.NoMemory put = absurd put
 
     -- the source failed
     broken_reached : (left : List ℕ) (after old middle new : Option (List ℕ)) (held : List ℕ) (t : SourceState) (was is : Bool) (j : Journal) → Tells old middle held → held ≡ []
@@ -341,12 +334,7 @@ module _ (c : Cluster) (journal : Journal) (reading : Reading) where
       where
         by : (k : LiveEnd) → EndsLines held (Some why.ReadFault) k middle new → Reaches c journal reading left after old new k
         by end.ReadFault same = broken_reached left after old middle new held t was is j tells (quiet h.why) w h same
-        by end.Done put = absurd put
-        by end.Unexpected put = absurd put
-        by end.Refused put = absurd put
-        by end.TooLarge put = absurd put
-        by end.WriteFault put = absurd put
-        by end.NoMemory put = absurd put
+        by how put = absurd put
     failed_reached (Some left) after old middle new held t was is j tells quiet w (inr h) how e = stopped_reached left after old middle new held t was is j tells w h how e
 
     -- the writer stopped the run
@@ -396,12 +384,12 @@ module _ (c : Cluster) (journal : Journal) (reading : Reading) where
     -- memory ran out
     between_reached : (before after old middle new : Option (List ℕ)) (held : List ℕ) (t : SourceState) (was is : Bool) → Tells old middle held
         → replays.IsBetweenTwo Follows Stopped (along before after old middle t was is) journal.events (sight (rest_of (told_by start before)) was) (sight (rest_of (told_by t after)) is) most
-        → SourceFollows start t before after → (how : LiveEnd) → EndsWithoutMemory held how middle new → reaches before after old new t was is how
-    between_reached None after old middle new held t was is tells w f how e = tt
-    between_reached (Some left) after old middle new held t was is tells w f how e = by how e
+        → SourceFollows start t before after → (r : Result (Unit {0}) WriteFault) → Puts r held middle new → length held ≤ most_held → reaches before after old new t was is (end_as end.NoMemory r)
+    between_reached None after old middle new held t was is tells w f r e few = tt
+    between_reached (Some left) after old middle new held t was is tells w f r e few = by r e
       where
-        by : (k : LiveEnd) → EndsWithoutMemory held k middle new → Reaches c journal reading left after old new k
-        by end.NoMemory put =
+        by : (q : Result (Unit {0}) WriteFault) → Puts q held middle new → Reaches c journal reading left after old new (end_as end.NoMemory q)
+        by (Ok done) put =
             let added = all_left (run_lines_text c w.lines) held old middle new (tells w.lines w.told) put in
             record {
               printed = w.lines;
@@ -417,13 +405,9 @@ module _ (c : Cluster) (journal : Journal) (reading : Reading) where
                   (begins_due c journal (results_behind c journal reading left) w.at (rest_of (told_by t after)) w.lines other whole w.run gets)
                   (whole_prefix (run_lines_text c w.lines) old new added);
             }
-        by end.WriteFault put =
-            rest_cut left after old new t f w.lines w.at w.run (inr w.between) (short_behind (run_lines_text c w.lines) [] held [] old middle new (tells w.lines w.told) put)
-        by end.Done put = absurd put
-        by end.Unexpected put = absurd put
-        by end.Refused put = absurd put
-        by end.TooLarge put = absurd put
-        by end.ReadFault put = absurd put
+        by (Err fault) put =
+            rest_cut left after old new t f w.lines w.at w.run (inr w.between)
+            (short_behind (run_lines_text c w.lines) [] held [] old middle new (tells w.lines w.told) (short_first held [] middle new put few))
 
 -- there is no memory for the first line: nothing was written
 pub nothing_reached : (c : Cluster) (journal : Journal) (reading : Reading) (before after text : Option (List ℕ))
@@ -482,12 +466,14 @@ module _ (c : Cluster) (journal : Journal) (reading : Reading) (s t : SourceStat
   tells_so tells lines told = subst (λ (x : Cluster). GoesOut (run_lines_text x lines) [] held old middle) names (tells lines told)
 
   pub done_from : TellsBy → replays.IsTold Follows Stopped from journal.events (sight (rest_of (told_by s before)) was) (sight (rest_of (told_by t after)) is) most j with_all → SourceFollows s t before after
-      → (how : LiveEnd) → EndsDone held how middle new → IfSome before (λ left. Reaches c journal reading left after old new how)
-  done_from tells w f how e = done_reached c journal reading Follows Stopped most before after old middle new held t was is j (tells_so tells) (rw fresh at w) (rw fresh at f) how e
+      → (r : Result (Unit {0}) WriteFault) → Puts r held middle new → length held ≤ most_held → IfSome before (λ left. Reaches c journal reading left after old new (end_as end.Done r))
+  done_from tells w f r e few = done_reached c journal reading Follows Stopped most before after old middle new held t was is j (tells_so tells) (rw fresh at w) (rw fresh at f) r e few
 
   pub unexpected_from : (a : Answer) → TellsBy → replays.IsTold Follows Stopped from journal.events (sight (rest_of (told_by s before)) was) (sight (rest_of (told_by t after)) is) most j (unexpected a) → SourceFollows s t before after
-      → (how : LiveEnd) → EndsCut held (run_line d (line.Unexpected t.line)) how middle new → IfSome before (λ left. Reaches c journal reading left after old new how)
-  unexpected_from a tells w f how e = unexpected_reached c journal reading Follows Stopped most before after old middle new held t was is j a (tells_so tells) (rw fresh at w) (rw fresh at f) how (subst (λ (x : Cluster). EndsCut held (run_line x (line.Unexpected t.line)) how middle new) names e)
+      → (r : Result (Unit {0}) WriteFault) → PutsLast r (run_line d (line.Unexpected t.line)) held middle new → IfSome before (λ left. Reaches c journal reading left after old new (end_as end.Unexpected r))
+  unexpected_from a tells w f r e =
+      unexpected_reached c journal reading Follows Stopped most before after old middle new held t was is j a (tells_so tells) (rw fresh at w) (rw fresh at f) r
+      (subst (λ (x : Cluster). PutsLast r (run_line x (line.Unexpected t.line)) held middle new) names e)
 
   pub failed_from : TellsBy → (stop_of t ≡ Some why.ReadFault → held ≡ []) → replays.IsTold Follows Stopped from journal.events (sight (rest_of (told_by s before)) was) (sight (rest_of (told_by t after)) is) most j in_failure
       → HasBroken s t before after ⊎ HasStopped s t before after → (how : LiveEnd) → EndsLines held (stop_of t) how middle new → IfSome before (λ left. Reaches c journal reading left after old new how)
@@ -502,8 +488,8 @@ module _ (c : Cluster) (journal : Journal) (reading : Reading) (s t : SourceStat
       (λ lines at told. subst (λ (x : Cluster). BreaksOff (run_lines_text x lines) (last_text x at) old new) names (stops lines at told)) (rw fresh at w) (rw fresh at f)
 
   pub between_from : TellsBy → replays.IsBetweenTwo Follows Stopped from journal.events (sight (rest_of (told_by s before)) was) (sight (rest_of (told_by t after)) is) most → SourceFollows s t before after
-      → (how : LiveEnd) → EndsWithoutMemory held how middle new → IfSome before (λ left. Reaches c journal reading left after old new how)
-  between_from tells w f how e = between_reached c journal reading Follows Stopped most before after old middle new held t was is (tells_so tells) (rw fresh at w) (rw fresh at f) how e
+      → (r : Result (Unit {0}) WriteFault) → Puts r held middle new → length held ≤ most_held → IfSome before (λ left. Reaches c journal reading left after old new (end_as end.NoMemory r))
+  between_from tells w f r e few = between_reached c journal reading Follows Stopped most before after old middle new held t was is (tells_so tells) (rw fresh at w) (rw fresh at f) r e few
 
 pub failed_kind : (exact : Bool) (v u : SourceView) → HasQuestionFailed exact v u → HasBroken v.state u.state v.left u.left ⊎ HasStopped v.state u.state v.left u.left
 failed_kind exact v u (by_source h failed) = inl h

@@ -2,7 +2,9 @@
 use Rattle.std.proofs.Common.{◌≡◌, ◌≢◌, ℕ, ◌<◌, ◌≤◌, ◌==◌, ◌&&◌, ◌||◌, not, Bool, true, false, if◌then◌else◌, Option, List, [], ◌∷◌, ◌++◌, map, filter, refl, ap, sym, subst, ◌∙◌, arith}
 use Rattle.std.specs.List.{list_any, slice_split, onto_first as onto_part}
 use Rattle.std.proofs.lemmas.List.Splits.{slice_split-cons_no}
-use Rattle.std.proofs.lemmas.Bool.{cond-true, cond-false, eqb-true, or_parts}
+use Rattle.std.proofs.Math.Bool.{or-true}
+use Rattle.std.proofs.lemmas.Bool.{cond-true, cond-false, eqb-true, ne_eqb, or_parts}
+use Rattle.std.proofs.lemmas.List.Folds.{list_any-append}
 use Rattle.cluster_io.specs.NextLine.{first_line, first_line_of, has_feed, holds_line, is_whole}
 use Rattle.crm_lex.specs.LogicalLines.{joined_text, line_text, with_joint}
 use Rattle.crm_lex.specs.RawLines.{begins_comment, content, ends_in, goes_on, is_blank, is_line_end, joined, onto_first, onto_group, physical_lines}
@@ -68,10 +70,7 @@ no_backslash_inside (b ∷ bs) h =
         ap (list_any (λ b. b == 92)) (cond-false (is_line_end (b ∷ bs)) [] (b ∷ content bs) e) ∙ no_backslash b (content bs) here more
 
 no_backslash_fed : (line : List ℕ) → HasNoBackslash line → HasNoBackslash (line ++ 10 ∷ [])
-no_backslash_fed [] h = refl
-no_backslash_fed (b ∷ bs) h =
-    let parts = or_parts (b == 92) (list_any (λ b. b == 92) bs) h in
-    no_backslash b (bs ++ 10 ∷ []) parts.0 (no_backslash_fed bs parts.1)
+no_backslash_fed line h = list_any-append (λ b. b == 92) line (10 ∷ []) ∙ ap (λ (t : Bool). t || false) h
 
 ends_otherwise : (text : List ℕ) → HasNoBackslash text → ends_in 92 text ≡ false
 ends_otherwise [] h = refl
@@ -82,13 +81,9 @@ stands_alone : (line : List ℕ) → HasNoBackslash line → goes_on false line 
 stands_alone line h =
     ap (λ (t : Bool). t && (false || not (begins_comment (content line)))) (ends_otherwise (content line) (no_backslash_inside line h))
 
-or_true : (t : Bool) → (t || true) ≡ true
-or_true true = refl
-or_true false = refl
-
 is_fed : (line : List ℕ) → has_feed (line ++ 10 ∷ []) ≡ true
 is_fed [] = refl
-is_fed (b ∷ bs) = ap (λ (t : Bool). (b == 10) || t) (is_fed bs) ∙ or_true (b == 10)
+is_fed (b ∷ bs) = ap (λ (t : Bool). (b == 10) || t) (is_fed bs) ∙ or-true (b == 10)
 
 -- the first physical line is the first logical line, and it is whole
 module _ (text : List ℕ) (f : FirstLine text) where
@@ -130,11 +125,7 @@ letter b low high = record {
 }
   where
     differs : (n : ℕ) → n < b → (b == n) ≡ false
-    differs n below = by (b == n) refl
-      where
-        by : (t : Bool) → (b == n) ≡ t → t ≡ false
-        by true e = let same = eqb-true b n e in absurd (omega (arith, same, below))
-        by false e = refl
+    differs n below = ne_eqb b n (λ (same : b ≡ n). (let f : ⊥ = omega (arith, same, below) in f))
 
 module _ (b : ℕ) (is : IsLetter b) where
   no_end : (xs : List ℕ) → is_line_end (b ∷ xs) ≡ false

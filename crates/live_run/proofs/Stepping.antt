@@ -16,13 +16,13 @@ use Rattle.live_run.specs.SourceFollowed.{AreNear, LastLineSays, HasRead, IsStop
 use Rattle.run_safety.specs.TwoRuns.{IsFront}
 use Rattle.live_run.specs.Inner.ReadSteps.{ReadUntil}
 use Rattle.live_run.specs.LineSays.{line_says, place_behind_said, line_says_within, sized_says}
-use Rattle.live_run.specs.declared.line_result.Came.TheVariants as came
+use Rattle.live_run.specs.declared.result_reader.Came.TheVariants as came
 use Rattle.live_run.specs.declared.line_stop.LineCause.TheVariants as cause
 use Rattle.live_run.specs.declared.line_stop.LineStop.{LineStop}
 use Rattle.live_run.specs.declared.line_stop.LineStop.TheVariants as why
 use Rattle.live_run.specs.declared.place.Place.{Place}
-use Rattle.live_run.specs.declared.line_meaning.Said.{Said}
-use Rattle.live_run.specs.declared.line_meaning.Said.TheVariants as said
+use Rattle.live_run.specs.declared.line_saying.Said.{Said}
+use Rattle.live_run.specs.declared.line_saying.Said.TheVariants as said
 use Rattle.live_run.proofs.Bringing.{handed_answer, handed_cut, line_first, lines_at, longest_is, room_is, some_if}
 use Rattle.live_run.proofs.Cuts.{cut_of}
 use Rattle.live_run.proofs.Unfinished.{longer}

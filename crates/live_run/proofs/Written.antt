@@ -1,35 +1,19 @@
 -- What is written of several lines, one after the other, and what is held back of them.
-use Rattle.std.specs.Prelude.{IsErr, OnErr, OnOk}
-use Rattle.std.proofs.Common.{◌≡◌, ◌≤◌, ℕ, Bool, Option, Some, None, Result, Ok, Err, List, [], ◌∷◌, ◌++◌, append-nil, append_assoc, length, length-append, refl, ap, sym, subst, ◌∙◌, arith}
-use Rattle.std.proofs.lemmas.Grind.{flat_map-append}
-use Rattle.cluster_io.specs.Streams.{Adds, AddsPrefix, Bears}
+use Rattle.std.specs.Prelude.{IsErr}
+use Rattle.std.proofs.Common.{◌≡◌, ◌≤◌, ℕ, Bool, Option, Some, Result, Ok, Err, List, [], ◌∷◌, ◌++◌, append-nil, append_assoc, length, length-append, refl, ap, sym, subst, ◌∙◌, arith}
+use Rattle.cluster_io.specs.Streams.{Adds, Bears}
 use Rattle.cluster_io.specs.declared.sink.WriteFault.{WriteFault}
 use Rattle.cluster_io.proofs.Bearing.{Bears-as}
 use Rattle.cluster_io.proofs.Pieces.{Adds-then}
 use Rattle.cluster_types.specs.declared.cluster.Cluster.{Cluster}
 use Rattle.cluster_types.specs.declared.run.RunLine.{RunLine}
 use Rattle.cluster_types.specs.Texts.{run_line}
-use Rattle.graph_exec.specs.declared.transition.watcher.Heard.TheVariants as heard
 use Rattle.graph_exec.specs.WatcherLines.{StopsAmong}
 use Rattle.live_run.specs.Ends.{run_lines_text}
-use Rattle.live_run.specs.SourceFollowedLaws.{goes_then}
-use Rattle.live_run.specs.Inner.Fronts.{adds_none, short_behind, short_first, short_rest}
+use Rattle.live_run.specs.SourceFollowedLaws.{lines_later, lines_then}
+use Rattle.live_run.specs.Inner.Fronts.{short_rest}
 use Rattle.live_run.specs.HeldAndWritten.{BreaksOff, GoesOut, HasFailedBehind, HasWrittenLines, IsSameSink, Puts, PutsLast, WriterView, most_held}
-use Rattle.live_run.specs.Inner.WriteResults.{PutsBehind, PutsLines, heard_of}
-
--- what one `write_text` has written
-pub puts_written : (r : Result (Unit {0}) WriteFault) (text : List ℕ) (before after : Option (List ℕ)) → OnOk r (Adds before text after) → OnErr r (AddsPrefix text before after)
-    → Puts r text before after
-puts_written (Ok done) text before after a p = a
-puts_written (Err fault) text before after a p = p
-
--- a line is held back
-pub holds_back : (text held held_now : List ℕ) (written : Option (List ℕ)) → held_now ≡ held ++ text → GoesOut text held held_now written written
-holds_back text held held_now written is = record { out = []; parts = sym is; written = adds_none written }
-
--- all that was held back has left before
-pub leaves_first : (text held held_now : List ℕ) (before after : Option (List ℕ)) → Adds before held after → held_now ≡ text → GoesOut text held held_now before after
-leaves_first text held held_now before after a is = record { out = held; parts = ap (λ (t : List ℕ). held ++ t) (sym is); written = a }
+use Rattle.live_run.specs.Inner.WriteResults.{PutsBehind, PutsLine}
 
 -- and then all leaves
 pub goes_all : (r : Result (Unit {0}) WriteFault) (text held held_then : List ℕ) (before middle after : Option (List ℕ)) → GoesOut text held held_then before middle
@@ -52,117 +36,52 @@ bears_failed : (exact : Bool) (faults faults_now : ℕ) (fault : WriteFault) →
     → Bears exact (Unit {0}) faults faults_now
 bears_failed exact faults faults_now fault b = Bears-as exact (IsErr {T = Unit {0}} {E = WriteFault} (Err fault)) (Unit {0}) faults faults_now (λ e. tt) (λ u. refl) b
 
-module _ (exact : Bool) (old new : WriterView) (same : new.names ≡ old.names) (sink : IsSameSink old.loan new.loan) where
-  -- a line is told to a writer, or it stops there
-  module _ (line : RunLine) where
-    pub wrote_one : (r : Result (Unit {0}) WriteFault) → PutsBehind r (run_line old.names line) old.held new.held old.written new.written → Bears exact (IsErr r) old.faults new.faults
-        → heard_of r ≡ heard.Go → HasWrittenLines exact old new (line ∷ [])
-    wrote_one (Ok done) p b go = record {
-      names_stay = same;
-      put = record { bears = bears_none exact old.faults new.faults done b; same_sink = sink };
-      text = subst (λ (t : List ℕ). GoesOut t old.held new.held old.written new.written) (sym (one_text old.names line)) p;
-    }
-    wrote_one (Err fault) p b go = let f : ⊥ = cc in absurd f
-
-    pub failed_one : (r : Result (Unit {0}) WriteFault) → PutsBehind r (run_line old.names line) old.held new.held old.written new.written → Bears exact (IsErr r) old.faults new.faults
-        → heard_of r ≡ heard.Stop → HasFailedBehind exact old new [] (Some line)
-    failed_one (Ok done) p b go = let f : ⊥ = cc in absurd f
-    failed_one (Err fault) p b go = record {
-      names_stay = same;
-      put = record { bears = bears_failed exact old.faults new.faults fault b; same_sink = sink };
-      text = subst (λ (t : List ℕ). BreaksOff t (run_line old.names line) old.written new.written) (sym (append-nil old.held)) p;
-    }
-
-  -- the lines of a plan are
-  module _ (lines : List RunLine) where
-    pub wrote_lines : (r : Result (Unit {0}) WriteFault) → PutsLines old.names old.held new.held old.written new.written r lines → Bears exact (IsErr r) old.faults new.faults
-        → heard_of r ≡ heard.Go → HasWrittenLines exact old new lines
-    wrote_lines (Ok done) p b go = record { names_stay = same; put = record { bears = bears_none exact old.faults new.faults done b; same_sink = sink }; text = p }
-    wrote_lines (Err fault) p b go = let f : ⊥ = cc in absurd f
-
-    pub failed_lines : (r : Result (Unit {0}) WriteFault) → PutsLines old.names old.held new.held old.written new.written r lines → Bears exact (IsErr r) old.faults new.faults
-        → heard_of r ≡ heard.Stop → StopsAmong (λ (front : List RunLine) (at : RunLine). HasFailedBehind exact old new front (Some at)) lines
-    failed_lines (Ok done) p b go = let f : ⊥ = cc in absurd f
-    failed_lines (Err fault) p b go = record {
-      before = p.before;
-      at = p.at;
-      behind = p.behind;
-      parts = p.parts;
-      stopped = record { names_stay = same; put = record { bears = bears_failed exact old.faults new.faults fault b; same_sink = sink }; text = p.stopped };
-    }
-
-  -- all that is held back leaves, or it stops there
-  pub wrote_held : (r : Result (Unit {0}) WriteFault) → Puts r old.held old.written new.written → new.held ≡ [] → Bears exact (IsErr r) old.faults new.faults
-      → heard_of r ≡ heard.Go → HasWrittenLines exact old new []
-  wrote_held (Ok done) p none b go = record {
-    names_stay = same;
-    put = record { bears = bears_none exact old.faults new.faults done b; same_sink = sink };
-    text = leaves_first [] old.held new.held old.written new.written p none;
-  }
-  wrote_held (Err fault) p none b go = let f : ⊥ = cc in absurd f
-
-  pub failed_held : (r : Result (Unit {0}) WriteFault) → Puts r old.held old.written new.written → length old.held ≤ most_held → Bears exact (IsErr r) old.faults new.faults
-      → heard_of r ≡ heard.Stop → HasFailedBehind exact old new [] None
-  failed_held (Ok done) p few b go = let f : ⊥ = cc in absurd f
-  failed_held (Err fault) p few b go = record {
-    names_stay = same;
-    put = record { bears = bears_failed exact old.faults new.faults fault b; same_sink = sink };
-    text = subst (λ (t : List ℕ). BreaksOff t [] old.written new.written) (sym (append-nil old.held)) (short_first old.held [] old.written new.written p few);
-  }
+-- a line is told to a writer, or it stops there
+pub puts_one : (exact : Bool) (old new : WriterView) (same : new.names ≡ old.names) (sink : IsSameSink old.loan new.loan) (line : RunLine) (r : Result (Unit {0}) WriteFault)
+    → PutsBehind r (run_line old.names line) old.held new.held old.written new.written → Bears exact (IsErr r) old.faults new.faults → PutsLine exact old new r line
+puts_one exact old new same sink line (Ok done) p b = record {
+  names_stay = same;
+  put = record { bears = bears_none exact old.faults new.faults done b; same_sink = sink };
+  text = subst (λ (t : List ℕ). GoesOut t old.held new.held old.written new.written) (sym (one_text old.names line)) p;
+}
+puts_one exact old new same sink line (Err fault) p b = record {
+  names_stay = same;
+  put = record { bears = bears_failed exact old.faults new.faults fault b; same_sink = sink };
+  text = subst (λ (t : List ℕ). BreaksOff t (run_line old.names line) old.written new.written) (sym (append-nil old.held)) p;
+}
 
 -- the first of some lines were added, and these are left
-pub record IsPut (c : Cluster) (held held_now : List ℕ) (before after : Option (List ℕ)) (lines left : List RunLine) : Type 0 where
+pub record IsPut (exact : Bool) (old now : WriterView) (lines left : List RunLine) : Type 0 where
   pub passed : List RunLine
   pub parts : lines ≡ passed ++ left
-  pub text : GoesOut (run_lines_text c passed) held held_now before after
+  pub wrote : HasWrittenLines exact old now passed
 
-module _ (c : Cluster) (lines : List RunLine) (held held_now : List ℕ) (before after : Option (List ℕ)) where
-  pub put_first : (line : RunLine) (left : List RunLine) → lines ≡ line ∷ left → GoesOut (run_line c line) held held_now before after
-      → IsPut c held held_now before after lines left
-  put_first line left parts text = record {
-    passed = line ∷ [];
-    parts = parts;
-    text = subst (λ (t : List ℕ). GoesOut t held held_now before after) (sym (one_text c line)) text;
+module _ (exact : Bool) (old now new : WriterView) (lines left rest : List RunLine) (line : RunLine) (next : left ≡ line ∷ rest) (p : IsPut exact old now lines left) where
+  parts : lines ≡ p.passed ++ line ∷ rest
+  parts = p.parts ∙ ap (λ (ls : List RunLine). p.passed ++ ls) next
+
+  pub put_more : HasWrittenLines exact now new (line ∷ []) → IsPut exact old new lines rest
+  put_more wrote = record {
+    passed = p.passed ++ line ∷ [];
+    parts = parts ∙ sym (append_assoc p.passed (line ∷ []) rest);
+    wrote = lines_then exact old now new p.passed (line ∷ []) p.wrote wrote;
   }
 
-  module _ (held_then : List ℕ) (middle : Option (List ℕ)) (left rest : List RunLine) (line : RunLine) (next : left ≡ line ∷ rest)
-      (p : IsPut c held held_then before middle lines left) where
-    pub put_more : GoesOut (run_line c line) held_then held_now middle after → IsPut c held held_now before after lines rest
-    put_more text = record {
-      passed = p.passed ++ line ∷ [];
-      parts = p.parts ∙ (ap (λ (ls : List RunLine). p.passed ++ ls) next ∙ sym (append_assoc p.passed (line ∷ []) rest));
-      text = subst (λ (t : List ℕ). GoesOut t held held_now before after)
-          (sym (flat_map-append (run_line c) p.passed (line ∷ []) ∙ ap (λ (t : List ℕ). run_lines_text c p.passed ++ t) (one_text c line)))
-          (goes_then (run_lines_text c p.passed) (run_line c line) held held_then before middle p.text held_now after text);
-    }
-
-    -- the sink fails at the next
-    pub put_failed : BreaksOff held_then (run_line c line) middle after
-        → StopsAmong (λ (front : List RunLine) (at : RunLine). BreaksOff (held ++ run_lines_text c front) (run_line c at) before after) lines
-    put_failed short = record {
-      before = p.passed;
-      at = line;
-      behind = rest;
-      parts = p.parts ∙ ap (λ (ls : List RunLine). p.passed ++ ls) next;
-      stopped = short_behind (run_lines_text c p.passed) held held_then (run_line c line) before middle after p.text short;
-    }
-
-  -- none is left
-  pub put_all : (left : List RunLine) → left ≡ [] → IsPut c held held_now before after lines left → GoesOut (run_lines_text c lines) held held_now before after
-  put_all left none p =
-      subst (λ (ls : List RunLine). GoesOut (run_lines_text c ls) held held_now before after)
-      (sym (p.parts ∙ (ap (λ (ls : List RunLine). p.passed ++ ls) none ∙ append-nil p.passed))) p.text
-
-  -- the sink fails at the first
-  pub failed_first : (line : RunLine) (left : List RunLine) → lines ≡ line ∷ left → BreaksOff held (run_line c line) before after
-      → StopsAmong (λ (front : List RunLine) (at : RunLine). BreaksOff (held ++ run_lines_text c front) (run_line c at) before after) lines
-  failed_first line left parts short = record {
-    before = [];
+  -- the sink fails at the next
+  pub put_failed : HasFailedBehind exact now new [] (Some line) → StopsAmong (λ (front : List RunLine) (at : RunLine). HasFailedBehind exact old new front (Some at)) lines
+  put_failed failed = record {
+    before = p.passed;
     at = line;
-    behind = left;
+    behind = rest;
     parts = parts;
-    stopped = subst (λ (t : List ℕ). BreaksOff t (run_line c line) before after) (sym (append-nil held)) short;
+    stopped = subst (λ (ls : List RunLine). HasFailedBehind exact old new ls (Some line)) (append-nil p.passed)
+        (lines_later exact old now new p.passed [] p.wrote (Some line) failed);
   }
+
+-- none is left
+pub put_all : (exact : Bool) (old new : WriterView) (lines left : List RunLine) → left ≡ [] → IsPut exact old new lines left → HasWrittenLines exact old new lines
+put_all exact old new lines left none p =
+    subst (HasWrittenLines exact old new) (sym (p.parts ∙ (ap (λ (ls : List RunLine). p.passed ++ ls) none ∙ append-nil p.passed))) p.wrote
 
 -- a text was added where nothing was held back, and then all leaves, with a last text behind it or with none
 module _ (text held : List ℕ) (old middle new : Option (List ℕ)) (a : GoesOut text [] held old middle) where

@@ -8,8 +8,8 @@ use Rattle.input_reading.specs.declared.results.result_lines.ResultLine.{ResultL
 use Rattle.live_run.specs.LineSays.{place_behind_said, line_says_within}
 use Rattle.live_run.specs.declared.line_stop.LineStop.{LineStop}
 use Rattle.live_run.specs.declared.place.Place.{Place}
-use Rattle.live_run.specs.declared.line_meaning.Said.{Said}
-use Rattle.live_run.specs.declared.line_meaning.Said.TheVariants as said
+use Rattle.live_run.specs.declared.line_saying.Said.{Said}
+use Rattle.live_run.specs.declared.line_saying.Said.TheVariants as said
 
 -- answers with their lines, and why there are no more, if that is so by a line that is refused or goes past the limit
 pub record Coming : Type 0 where

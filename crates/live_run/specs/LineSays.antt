@@ -19,8 +19,8 @@ use Rattle.live_run.specs.declared.line_stop.LineCause.TheVariants as cause
 use Rattle.live_run.specs.declared.line_stop.LineStop.{LineStop}
 use Rattle.live_run.specs.declared.line_stop.LineStop.TheVariants.{ReadFault, TooLarge, Refused}
 use Rattle.live_run.specs.declared.place.Place.{Place}
-use Rattle.live_run.specs.declared.line_meaning.Said.{Said}
-use Rattle.live_run.specs.declared.line_meaning.Said.TheVariants as said
+use Rattle.live_run.specs.declared.line_saying.Said.{Said}
+use Rattle.live_run.specs.declared.line_saying.Said.TheVariants as said
 
 -- why a line is refused. A line is read without memory, so that the second case never comes
 abbrev pub refused_for : {C : Type 0} → (C → LineCause) → Fault C → LineStop

@@ -1,6 +1,6 @@
 //! The head of an input, line by line.
 
-ghost use Rattle.std.specs.Prelude.{◌≡◌, ◌≢◌, ℕ, ◌+◌, ◌<◌, ◌≤◌, ◌^◌, Option, List, [], Some, None, Ok, Err, false, true, length, ◌++◌, if◌then◌else◌, IfOk, IfErr, IfSome, IsErrOf, OnOk};
+ghost use Rattle.std.specs.Prelude.{◌≡◌, ◌≢◌, ℕ, ◌+◌, ◌<◌, ◌≤◌, ◌^◌, Option, List, [], Some, None, Ok, Err, false, true, length, ◌++◌, IfOk, IfErr, IfSome, IsErrOf};
 ghost use Rattle.cluster_io.specs.LineReaders.{loan_of, reading_of, source_of};
 ghost use Rattle.cluster_io.specs.NextLine.{holds_line, IsUndecided};
 ghost use Rattle.cluster_io.specs.Streams.{Bears};
@@ -12,7 +12,7 @@ ghost use Rattle.live_run.specs.Heads.{CanGoOn, HasHeadGoneOn, HeadFound, IsAmid
 ghost use Rattle.live_run.specs.Inner.HeadSteps.{BringsHead, StillAmid, WhileWell, came_to, lacks_memory, stop_for};
 
 use cluster_io::{LineReader, LineStep, Source};
-use crm_lex::{LexCause, LexFault, NoMemory, WordBuf, lex_one, line_count};
+use crm_lex::{LexCause, LexFault, WordBuf, lex_one, line_count};
 use input_reading::InputCause;
 use std::alloc::Global;
 
@@ -64,36 +64,6 @@ fn refused(fault: LexFault) -> HeadStop
     }
 }
 
-/// The head ends, or goes on.
-fn ended(ends: bool) -> Option<Result<(), HeadStop>>
-    ensures { result ≡ (if ends then Some (Ok tt) else None) }
-{
-    if ends { Some(Ok(())) } else { None }
-}
-
-/// What the line says that was just handed out, behind which the text ends.
-fn line_says<S: Source>(
-    reader: &LineReader<'_, S>,
-    words: &mut WordBuf,
-) -> Option<Result<(), HeadStop>>
-    requires { (reading_of reader.now).number + length (physical_lines (reading_of reader.now).raw) ≤ 2 ^ 32 }
-    ensures says { (text : List ℕ) (reading : Reading) (others : HeadFound) → came_to result text reading others
-        ≡ found_by (line_by_words (reads_line (reading_of reader.now).number (reading_of reader.now).raw)) (taken text reading.next reading.room) others }
-    ensures fault { result ≢ Some (Err HeadStop.ReadFault) }
-    ensures memory { lacks_memory result ≡ false }
-{
-    match lex_one(reader.number(), reader.raw(), words) {
-        Ok(()) => ended(begins_results(words)),
-        Err(fault) => Some(Err(refused(fault))),
-    }
-}
-
-fn add(text: &mut Vec<u8>, raw: &[u8]) -> Result<(), NoMemory>
-    ensures { OnOk result (text.new.items ≡ text.old.items ++ raw.now) }
-{
-    Ok(text.extend_from_slice(raw)?)
-}
-
 /// Takes the line into the text that was just handed out.
 fn take_line<S: Source>(
     reader: &LineReader<'_, S>,
@@ -108,10 +78,14 @@ fn take_line<S: Source>(
     ensures next { head.new.next ≡ head.old.next + length (physical_lines (reading_of reader.now).raw) }
     ensures fault { result ≢ Some (Err HeadStop.ReadFault) }
 {
-    head.next += line_count(reader.raw()) as u64;
-    match add(&mut head.text, reader.raw()) {
-        Ok(()) => line_says(reader, words),
-        Err(_) => Some(Err(HeadStop::NoMemory)),
+    let raw = reader.raw();
+    head.next += line_count(raw) as u64;
+    if head.text.extend_from_slice(raw).is_err() {
+        return Some(Err(HeadStop::NoMemory));
+    }
+    match lex_one(reader.number(), raw, words) {
+        Ok(()) => begins_results(words).then_some(Ok(())),
+        Err(fault) => Some(Err(refused(fault))),
     }
 }
 

@@ -10,12 +10,10 @@ mod line_stop;
 
 // What one line says.
 mod at_hand;
-mod line_meaning;
 mod line_saying;
 mod place;
 
 // One line after another.
-mod line_result;
 mod result_reader;
 
 // A source of answers.
@@ -26,7 +24,6 @@ mod line_outcomes;
 // A writer of the lines of a run.
 mod held_text;
 mod line_writer;
-mod run_writing;
 mod writing;
 
 // How a run ends.

@@ -1,6 +1,6 @@
 //! A source of answers that are read from lines as they are asked for.
 
-ghost use Rattle.std.specs.Prelude.{◌≡◌, ◌≢◌, ◌+◌, ◌≤◌, ◌<◌, ◌^◌, None, Some, true, false, is_none, is_some, IfOk};
+ghost use Rattle.std.specs.Prelude.{◌≡◌, ◌≢◌, ◌≤◌, ◌<◌, ◌^◌, None, Some, true, false, is_none, is_some, IfOk};
 ghost use Rattle.cluster_io.specs.LineReaders.{loan_of, reading_of, source_of};
 ghost use Rattle.cluster_io.specs.Streams.{Bears, Rose};
 ghost use Rattle.graph_exec.specs.Counts.{CountsAnswer, RoseByOne};
@@ -13,10 +13,9 @@ ghost use Rattle.live_run.specs.ResultReaders.{reader_lines};
 
 use crate::at_hand::begins_result;
 use crate::course::Course;
-use crate::line_result::Came;
 use crate::line_stop::LineStop;
 use crate::place::Place;
-use crate::result_reader::ResultReader;
+use crate::result_reader::{Came, ResultReader};
 use cluster_io::{LineReader, Source};
 use crm_lex::{NoMemory, WordBuf};
 use graph_exec::Next;
@@ -157,44 +156,6 @@ impl<'c, 's, S: Source> LineOutcomes<'c, 's, S> {
         }
     }
 
-    /// Reads on to the next answer, or to what comes in its place.
-    fn read_on(&mut self) -> Next
-        requires { is_reading (state_of self.old).course ≡ true }
-        ensures answers { CourseAnswers result (state_of self.old) (state_of self.new)
-            (S.left (outcomes_source self.old)) (S.left (outcomes_source self.new)) }
-        ensures said { HasSaid S.counts_only_failures (outcomes_view S.left S.faults self.old) (outcomes_view S.left S.faults self.new) result }
-        ensures line { LineStays result (state_of self.old).line (state_of self.new).line }
-        ensures answered { CountsAnswer result (state_of self.old).lines.at.before (state_of self.new).lines.at.before }
-        ensures asked { self.new.asked ≡ self.old.asked }
-        ensures stop { result ≡ Next.Failed → is_some (stop_of (state_of self.new)) ≡ true }
-        ensures unread { IsAtHand (state_of self.old) → outcomes_source self.new ≡ outcomes_source self.old }
-        ensures at_hand { IsAtHand (state_of self.old) → result ≡ Next.Failed → stop_of (state_of self.new) ≢ Some LineStop.ReadFault }
-        ensures cause { result ≡ Next.Failed → Rose (faults_of (state_of self.old) (S.faults (outcomes_source self.old)))
-            (faults_of (state_of self.new) (S.faults (outcomes_source self.new))) }
-        ensures bears { Bears S.counts_only_failures ((result ≡ Next.Failed) × (stop_of (state_of self.new) ≡ Some LineStop.ReadFault))
-            (S.faults (outcomes_source self.old)) (S.faults (outcomes_source self.new)) }
-        ensures same_source { outcomes_loan self.new ≡ outcomes_loan self.old }
-    {
-        match self.reader.read_on(self.names) {
-            Came::Answer(result) => {
-                self.line = result.line;
-                Next::Answer(result.answer)
-            }
-            Came::End => {
-                self.course = Course::Ended;
-                Next::Silent
-            }
-            Came::Stop(why) => {
-                self.course = Course::Stopped { why, times: 1 };
-                Next::Failed
-            }
-            Came::Fault => {
-                self.failed = true;
-                Next::Failed
-            }
-        }
-    }
-
     /// The next answer. `line` then gives its line. It is `Silent` at the end of the input and ever after. It is
     /// `Failed` where the source of bytes failed in this call, and where the next line is refused or goes past the
     /// limit; `stop` then says which. After `is_at_hand` has said yes, it leaves the source of bytes as it is.
@@ -222,7 +183,24 @@ impl<'c, 's, S: Source> LineOutcomes<'c, 's, S> {
     {
         self.asked = self.asked.saturating_add(1);
         match self.course {
-            Course::Reading => self.read_on(),
+            Course::Reading => match self.reader.read_on(self.names) {
+                Came::Answer(result) => {
+                    self.line = result.line;
+                    Next::Answer(result.answer)
+                }
+                Came::End => {
+                    self.course = Course::Ended;
+                    Next::Silent
+                }
+                Came::Stop(why) => {
+                    self.course = Course::Stopped { why, times: 1 };
+                    Next::Failed
+                }
+                Came::Fault => {
+                    self.failed = true;
+                    Next::Failed
+                }
+            },
             Course::Ended => Next::Silent,
             Course::Stopped { why, times } => {
                 self.course = Course::Stopped {

@@ -8,13 +8,22 @@ ghost use Rattle.live_run.specs.LineSays.{answer_says, line_says, refused_for, w
 ghost use Rattle.live_run.specs.Inner.LineFits.{SaidFits};
 ghost use Rattle.live_run.specs.declared.line_stop.LineCause.TheVariants as of_line;
 
-use crate::line_meaning::Said;
 use crate::line_stop::{LineCause, LineStop};
 use crate::place::Place;
 use cluster_types::Answer;
 use crm_lex::{LexFault, WordBuf, lex_one};
 use input_reading::{ResultFault, read_result};
 use names::Names;
+
+/// What a logical line says.
+#[derive(Clone, Copy)]
+pub(crate) enum Said {
+    /// It has no words.
+    Nothing,
+    Answer(Answer),
+    /// It isn't read.
+    Stop(LineStop),
+}
 
 /// Why a line is refused that can't be cut into words.
 fn refused_words(fault: LexFault) -> LineStop

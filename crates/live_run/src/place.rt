@@ -4,7 +4,7 @@ ghost use Rattle.std.specs.Prelude.{◌≡◌, ◌+◌, ◌<◌, ◌≤◌, ◌^
 ghost use Rattle.live_run.specs.LineSays.{place_behind_said};
 ghost use Rattle.live_run.specs.Inner.LineFits.{SaidFits};
 
-use crate::line_meaning::Said;
+use crate::line_saying::Said;
 
 /// The place of a result line.
 #[derive(Clone, Copy)]

@@ -11,15 +11,25 @@ ghost use Rattle.live_run.specs.Inner.ReadSteps.{ReadUntil};
 ghost use Rattle.live_run.specs.LineSays.{line_says, place_behind_said};
 ghost use Rattle.live_run.specs.Inner.LineFits.{SaidFits};
 
-use crate::line_meaning::Said;
-use crate::line_result::Came;
-use crate::line_saying::line_says;
+use crate::line_saying::{Said, line_says};
 use crate::line_stop::{LineCause, LineStop};
 use crate::place::Place;
 use cluster_io::{LineReader, LineStep, Source};
 use crm_lex::{LexCause, WordBuf, line_count};
 use input_reading::ResultLine;
 use names::Names;
+
+/// What came of reading on.
+#[derive(Clone, Copy)]
+pub(crate) enum Came {
+    Answer(ResultLine),
+    /// No line is left.
+    End,
+    /// The next line is refused, or goes past the limit of bytes.
+    Stop(LineStop),
+    /// The source of bytes failed, and has counted it.
+    Fault,
+}
 
 /// Reads result lines one by one. It takes no memory.
 #[derive(Drop)]

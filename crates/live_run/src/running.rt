@@ -1,11 +1,9 @@
 //! A run over result lines as they come.
 
-ghost use Rattle.std.specs.Prelude.{◌≡◌, ◌≢◌, ◌↔◌, ◌<◌, ◌^◌, [], Some, IfSome};
+ghost use Rattle.std.specs.Prelude.{◌≡◌, ◌≢◌, ◌↔◌, ◌<◌, ◌^◌, [], Some, IfSome, IsErr};
 ghost use Rattle.cluster_io.specs.Streams.{Bears, Rose};
-ghost use Rattle.cluster_types.specs.declared.run.RunLine.TheVariants as told;
 ghost use Rattle.cluster_types.specs.Journals.{moment_of};
 ghost use Rattle.cluster_types.specs.Safety.{IsAtRest};
-ghost use Rattle.cluster_types.specs.Texts.{run_line};
 ghost use Rattle.cluster_types.specs.Valid.{IsValid};
 ghost use Rattle.live_run.specs.Courses.{starting, stop_of};
 ghost use Rattle.live_run.specs.LineSources.{outcomes_loan, outcomes_source, state_of};
@@ -15,11 +13,11 @@ ghost use Rattle.live_run.specs.declared.line_stop.LineStop.TheVariants.{ReadFau
 ghost use Rattle.live_run.specs.LineWriters.{writer_held, writer_cluster, writer_loan, sink_of};
 ghost use Rattle.live_run.specs.HeldAndWritten.{IsSameSink};
 ghost use Rattle.live_run.specs.RunReached.{Reaches, results_behind};
-ghost use Rattle.live_run.specs.Inner.RunEnds.{EndsCut, EndsDone, EndsLines, EndsWithoutMemory};
+ghost use Rattle.live_run.specs.Inner.RunEnds.{EndsLines, end_as};
 
 use crate::live_end::LiveEnd;
 use crate::{HeldText, LineOutcomes, LineStop, LineWriter};
-use cluster_io::{Sink, Source};
+use cluster_io::{Sink, Source, WriteFault};
 use cluster_types::{Cluster, Journal};
 use graph_exec::{ReplayStop, replay_watched};
 use std::alloc::Global;
@@ -27,42 +25,16 @@ use std::alloc::Global;
 /// The most transitions of a run: each but the last takes a result line, and at most 10,000 are read.
 const MOST_TRANSITIONS: u32 = 10_001;
 
-/// How a run ends that is whole.
-fn end_of_whole<W: Sink>(writer: &mut LineWriter<'_, '_, W>) -> LiveEnd
-    ensures text { EndsDone (writer_held writer.old) result (W.written (sink_of writer.old)) (W.written (sink_of writer.new)) }
-    ensures bears { Bears W.counts_only_failures (result ≡ LiveEnd.WriteFault) (W.faults (sink_of writer.old)) (W.faults (sink_of writer.new)) }
-    ensures same_sink { IsSameSink (writer_loan writer.old) (writer_loan writer.new) }
+/// How a run ends whose last text was written, unless the sink failed.
+fn end_as(end: LiveEnd, done: Result<(), WriteFault>) -> LiveEnd
+    requires no_fault { (end ≢ LiveEnd.ReadFault) × (end ≢ LiveEnd.WriteFault) }
+    ensures end { result ≡ end_as end done }
+    ensures whole { result ≡ LiveEnd.Done → end ≡ LiveEnd.Done }
+    ensures no_read { result ≢ LiveEnd.ReadFault }
+    ensures write { (result ≡ LiveEnd.WriteFault) ↔ IsErr done }
 {
-    match writer.finish() {
-        Ok(()) => LiveEnd::Done,
-        Err(_) => LiveEnd::WriteFault,
-    }
-}
-
-/// How a run ends when memory runs out.
-fn end_without_memory<W: Sink>(writer: &mut LineWriter<'_, '_, W>) -> LiveEnd
-    ensures text { EndsWithoutMemory (writer_held writer.old) result (W.written (sink_of writer.old)) (W.written (sink_of writer.new)) }
-    ensures bears { Bears W.counts_only_failures (result ≡ LiveEnd.WriteFault) (W.faults (sink_of writer.old)) (W.faults (sink_of writer.new)) }
-    ensures same_sink { IsSameSink (writer_loan writer.old) (writer_loan writer.new) }
-{
-    match writer.finish() {
-        Ok(()) => LiveEnd::NoMemory,
-        Err(_) => LiveEnd::WriteFault,
-    }
-}
-
-/// How a run ends when its last answer doesn't apply.
-fn end_of_cut<S: Source, W: Sink>(
-    outcomes: &LineOutcomes<'_, '_, S>,
-    writer: &mut LineWriter<'_, '_, W>,
-) -> LiveEnd
-    ensures text { EndsCut (writer_held writer.old) (run_line (writer_cluster writer.old) (told.Unexpected (state_of outcomes.now).line)) result
-        (W.written (sink_of writer.old)) (W.written (sink_of writer.new)) }
-    ensures bears { Bears W.counts_only_failures (result ≡ LiveEnd.WriteFault) (W.faults (sink_of writer.old)) (W.faults (sink_of writer.new)) }
-    ensures same_sink { IsSameSink (writer_loan writer.old) (writer_loan writer.new) }
-{
-    match writer.unexpected(outcomes.line()) {
-        Ok(()) => LiveEnd::Unexpected,
+    match done {
+        Ok(()) => end,
         Err(_) => LiveEnd::WriteFault,
     }
 }
@@ -117,11 +89,11 @@ fn run_to_end<S: Source, W: Sink>(
     match replay_watched(alloc, cluster, journal, outcomes, writer, MOST_TRANSITIONS) {
         Ok(journal) => {
             drop(journal);
-            end_of_whole(writer)
+            end_as(LiveEnd::Done, writer.finish())
         }
         Err(ReplayStop::Unexpected(journal, _)) => {
             drop(journal);
-            end_of_cut(outcomes, writer)
+            end_as(LiveEnd::Unexpected, writer.unexpected(outcomes.line()))
         }
         Err(ReplayStop::SourceFault(journal)) => {
             drop(journal);
@@ -133,7 +105,7 @@ fn run_to_end<S: Source, W: Sink>(
         }
         // Each transition but the last takes a result line: so many are never made.
         Err(ReplayStop::Most(_)) => unreachable!(),
-        Err(ReplayStop::NoMemory) => end_without_memory(writer),
+        Err(ReplayStop::NoMemory) => end_as(LiveEnd::NoMemory, writer.finish()),
     }
 }
 

@@ -1,11 +1,23 @@
 //! The writer as a watcher.
 
-use crate::line_writer::{LineWriter, heard_of};
-use crate::run_writing::{flush, put, put_plan};
-use cluster_io::Sink;
+ghost use Rattle.std.specs.Prelude.{◌≡◌};
+ghost use Rattle.live_run.specs.Inner.WriteResults.{heard_of};
+
+use crate::line_writer::LineWriter;
+use cluster_io::{Sink, WriteFault};
 use cluster_types::{Action, Answer, Placed};
 use graph_exec::{Heard, Watcher};
 use trace_text::RunLineRef;
+
+/// Whoever writes goes on until a write fails.
+fn heard_of(done: Result<(), WriteFault>) -> Heard
+    ensures { result ≡ heard_of done }
+{
+    match done {
+        Ok(()) => Heard::Go,
+        Err(WriteFault) => Heard::Stop,
+    }
+}
 
 impl<'c, 's, W: Sink> Watcher for LineWriter<'c, 's, W> {
     ghost use Rattle.std.specs.Prelude.{◌≡◌, []};
@@ -26,34 +38,15 @@ impl<'c, 's, W: Sink> Watcher for LineWriter<'c, 's, W> {
     ghost stops = { λ w. W.faults (sink_of w) };
 
     fn planned(&mut self, transition: u32, placed: &Placed) -> Heard {
-        heard_of(put_plan(
-            self.cluster,
-            self.sink,
-            self.held,
-            &mut self.buf,
-            transition,
-            placed,
-        ))
+        heard_of(self.put_plan(transition, placed))
     }
 
     fn begun(&mut self, number: u32, action: Action) -> Heard {
-        heard_of(put(
-            self.cluster,
-            self.sink,
-            self.held,
-            &mut self.buf,
-            &RunLineRef::Begin(number, action),
-        ))
+        heard_of(self.put(&RunLineRef::Begin(number, action)))
     }
 
     fn taken(&mut self, answer: Answer) -> Heard {
-        heard_of(put(
-            self.cluster,
-            self.sink,
-            self.held,
-            &mut self.buf,
-            &RunLineRef::Taken(answer),
-        ))
+        heard_of(self.put(&RunLineRef::Taken(answer)))
     }
 
     fn closed(&mut self, transition: u32, complete: bool) -> Heard {
@@ -62,11 +55,11 @@ impl<'c, 's, W: Sink> Watcher for LineWriter<'c, 's, W> {
         } else {
             RunLineRef::Aborted(transition)
         };
-        heard_of(put(self.cluster, self.sink, self.held, &mut self.buf, &line))
+        heard_of(self.put(&line))
     }
 
     fn waits(&mut self) -> Heard {
-        heard_of(flush(self.sink, self.held))
+        heard_of(self.finish())
     }
 
     ghost from_itself = { λ w. lines_itself W.counts_only_failures (writer_view W.written W.faults w) };

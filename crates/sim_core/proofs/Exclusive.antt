@@ -1,8 +1,9 @@
 -- A run with a line that isn't the due one isn't lawful.
-use Rattle.std.proofs.Common.{arith, ◌≡◌, ◌⊎◌, inl, inr, ◌<◌, ℕ, zero, suc, true, List, [], ◌∷◌, ◌++◌, length, take, sym, subst, ap}
+use Rattle.std.proofs.Common.{arith, ◌≡◌, ◌⊎◌, inl, inr, ◌<◌, ℕ, true, List, ◌++◌, length, take, sym, subst, ap, ◌∙◌}
 use Rattle.std.specs.Prelude.{Option, Some, slice_get}
 use Rattle.std.proofs.lemmas.List.{length-take-le}
-use Rattle.std.proofs.lemmas.Option.{none-some}
+use Rattle.std.proofs.lemmas.Option.{slice_get_within}
+use Rattle.lemmas.proofs.Members.{slice_get_left}
 use Rattle.cluster_types.specs.declared.cluster.Cluster.{Cluster}
 use Rattle.cluster_types.specs.declared.journal.Answer.{Answer}
 use Rattle.cluster_types.specs.declared.journal.Journal.{Journal}
@@ -15,9 +16,7 @@ use Rattle.sim_core.specs.LawfulRuns.{IsCutRunOfLines, IsFaultyPlace, IsLawfulRu
 
 -- what stands at a place of the front of a list
 pub in_front : {X : Type 0} (xs more : List X) (i : ℕ) (x : X) → slice_get xs i ≡ Some x → slice_get (xs ++ more) i ≡ Some x
-in_front [] more i x e = absurd (none-some x e)
-in_front (y ∷ xs) more zero x e = e
-in_front (y ∷ xs) more (suc i) x e = in_front xs more i x e
+in_front xs more i x e = slice_get_left xs more i (slice_get_within xs i x e) ∙ e
 
 module _ (c : Cluster) (journal : Journal) (lines : List RunLine) (lawful : IsLawfulRun c journal lines) where
   not_other : (place : ℕ) (kind : Clause) → IsOther c journal lines place kind → ⊥

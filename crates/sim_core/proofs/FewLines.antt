@@ -1,7 +1,8 @@
 -- An input within the limit has few lines of a run, and they have few answers.
-use Rattle.std.proofs.Common.{arith, ◌≡◌, ◌≤◌, ◌<◌, ◌+◌, ◌-◌, ◌^◌, ℕ, zero, suc, List, [], ◌∷◌, ◌++◌, length, length-append, take, drop, Ok, ap, subst}
+use Rattle.std.proofs.Common.{arith, ◌≡◌, ◌≤◌, ◌<◌, ◌+◌, ◌-◌, ◌^◌, ℕ, List, [], ◌∷◌, ◌++◌, length, length-append, drop, Ok, ap, subst}
 use Rattle.std.specs.Prelude.{slice_range}
 use Rattle.std.specs.List.{flat_map}
+use Rattle.std.proofs.lemmas.List.{length-drop, length-take}
 use Rattle.crm_lex.specs.declared.line.Line.{Line}
 use Rattle.cluster_types.specs.declared.cluster.Cluster.{Cluster}
 use Rattle.cluster_types.specs.declared.journal.Answer.{Answer}
@@ -31,16 +32,6 @@ count_run c so_far (at ∷ more) out e =
     let joint = length-append so_far (one ∷ []) in
     omega arith
 
-fewer_taken : {X : Type 0} (n : ℕ) (xs : List X) → length (take n xs) ≤ length xs
-fewer_taken zero xs = omega arith
-fewer_taken (suc n) [] = omega arith
-fewer_taken (suc n) (x ∷ xs) = let m = fewer_taken n xs in omega arith
-
-fewer_left : {X : Type 0} (n : ℕ) (xs : List X) → length (drop n xs) ≤ length xs
-fewer_left zero xs = omega arith
-fewer_left (suc n) [] = omega arith
-fewer_left (suc n) (x ∷ xs) = let m = fewer_left n xs in omega arith
-
 few_behind : (after : ℕ) (head : Head) (lines : List Line) (trace : Trace) → with_run after head lines ≡ Ok trace → length trace.run.lines ≤ length lines
 unfolding with_run
 few_behind after head lines trace e =
@@ -59,7 +50,7 @@ few_lines text trace r =
     omega (arith, run, all, part)
   where
     few_there : (lines : List Line) (from to : ℕ) → length (slice_range lines from to) ≤ length lines
-    few_there lines from to = let a = fewer_taken (to - from) (drop from lines) in let b = fewer_left from lines in omega arith
+    few_there lines from to = let a = length-take (to - from) (drop from lines) in let b = length-drop from lines in omega (arith, a, b)
 
 pub few_in_trace : (text : List ℕ) (trace : Trace) → ReadsTrace text trace → length text ≤ most_bytes → length trace.run.lines + 1 < 2 ^ 32
 few_in_trace text trace r within = let few = few_lines text trace r in omega arith
@@ -67,14 +58,7 @@ few_in_trace text trace r within = let few = few_lines text trace r in omega ari
 -- their answers
 one_answer : (l : RunLine) → length (answer_in l) ≤ 1
 one_answer (line.Taken given) = omega arith
-one_answer (line.Transition k) = omega arith
-one_answer (line.Pinned r pin) = omega arith
-one_answer (line.Goal r n goal) = omega arith
-one_answer (line.Lacking r reason) = omega arith
-one_answer (line.Begin k a) = omega arith
-one_answer (line.Complete k) = omega arith
-one_answer (line.Aborted k) = omega arith
-one_answer (line.Unexpected k) = omega arith
+one_answer _ = omega arith
 
 few_found : (lines : List RunTextLine) → length (flat_map (λ (l : RunTextLine). answer_in l.what) lines) ≤ length lines
 few_found [] = omega arith

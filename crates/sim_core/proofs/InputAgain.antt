@@ -1,5 +1,5 @@
 -- What comes of an input line by line, and what is read of it whole.
-use Rattle.std.proofs.Common.{arith, ◌≡◌, ◌≤◌, ◌+◌, ℕ, true, false, List, [], ◌∷◌, ◌++◌, length, length-append, drop, codes, Result, Ok, Err, append_assoc, append-nil, refl, sym, ap, subst, ◌∙◌}
+use Rattle.std.proofs.Common.{arith, ◌≡◌, ◌<◌, ◌≤◌, ◌+◌, ℕ, true, false, List, [], ◌∷◌, ◌++◌, length, length-append, drop, codes, Result, Ok, Err, append_assoc, append-nil, refl, sym, ap, subst, ◌∙◌}
 use Rattle.std.specs.Prelude.{Option, Some, None}
 use Rattle.std.specs.List.{list_any}
 use Rattle.std.proofs.Math.Seq.{drop-append_seam}
@@ -177,6 +177,14 @@ module _ (text bytes : List ℕ) (next room : ℕ) (is : head_in text ≡ heads.
       (coming_is head.cluster (moment_of head.journal.events) room (record { moment = moment_of head.journal.events; before = 0; line = next }) [] (raw_lines behind) (own_lines behind)
       (let same : moment_of head.journal.events ≡ moment_of head.journal.events + 0 = omega arith in same) refl)
 
+  -- of a text within the limit no line behind the head goes past it
+  pub not_past : room < length (bytes_of (raw_lines behind)) → length text ≤ most_bytes → ⊥
+  not_past over fits =
+      let front = h.within in
+      let bytes_size = ap (λ (bs : List ℕ). length bs) h.text_is in
+      let left = h.room_is in
+      omega (arith, front, bytes_size, left, over, size, fits)
+
   -- it is read, and behind it no line is refused or goes past the limit
   module _ (head : Head) (says : lone_head_of bytes ≡ Ok head) (none : (coming_behind text bytes head next room).stop ≡ None) where
     answers : AreResults head.cluster (moment_of head.journal.events) next [] room (raw_lines behind) (coming_behind text bytes head next room).results
@@ -247,12 +255,7 @@ module _ (text : List ℕ) (whole : Input) (r : ReadsInput text whole) (fits : l
         by (Some (stop.Refused line (of_line.Words why))) w fault =
             absurd (let f : None ≡ Some (At line why) = ap first_lex_fault (sym clean_behind) ∙ fault in let no : ⊥ = cc in no)
         by (Some (stop.Refused line (of_line.Form why))) w fault = absurd (let f : Ok whole.results ≡ Err (At line why) = sym read ∙ fault clean_behind in let no : ⊥ = cc in no)
-        by (Some stop.TooLarge) w over =
-            let front = (h text bytes next room is).within in
-            let bytes_size = ap (λ (bs : List ℕ). length bs) (h text bytes next room is).text_is in
-            let left = (h text bytes next room is).room_is in
-            let whole_size = size text bytes next room is in
-            absurd (omega (arith, front, bytes_size, left, over, whole_size, fits))
+        by (Some stop.TooLarge) w over = absurd (not_past text bytes next room is over fits)
         by (Some stop.ReadFault) w none = absurd none
 
     line_by_line : ComesLineByLine text whole

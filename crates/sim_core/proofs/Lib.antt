@@ -1,8 +1,6 @@
 -- The top call.
-pub mod GraphTexts
 pub mod OneReplay
 pub mod OneAudit
-pub mod OneOutcome
 pub mod Completeness
 -- The word `replay`.
 pub mod Beginnings

@@ -18,7 +18,7 @@ use Rattle.live_run.specs.Inner.Fronts.{adds_none}
 use Rattle.input_reading.specs.declared.input.cause.InputCause.{InputCause}
 use Rattle.input_reading.specs.declared.input.reading.Head.{Head}
 use Rattle.sim_core.specs.declared.status.Status.{Status}
-use Rattle.sim_core.specs.declared.status.Status.TheVariants.{Done, NoMemory, Usage, ReadFault, WriteFault, Refused, Unexpected, TooLarge, NotLawful}
+use Rattle.sim_core.specs.declared.status.Status.TheVariants.{Done, NoMemory, ReadFault, WriteFault, Refused, Unexpected, TooLarge}
 use Rattle.sim_core.specs.Answers.{MayAnswer}
 use Rattle.sim_core.specs.LiveAnswers.{IsBehindHead, SaysLive, amid_head, behind_head, of_head, of_run, at_first, between_two}
 use Rattle.sim_core.specs.Inner.LiveSteps.{IsBehind, StopsBy, WritesFault, status_of}
@@ -34,24 +34,14 @@ refused_says input left before after line why Refused fault writes =
     record { text = refusal_text line why; due = inl (record { line = line; why = why; fault = fault; printed = refl }); added = writes }
 refused_says input left before after line why WriteFault fault writes = of_head (record { line = line; why = why; fault = fault; front = writes })
 refused_says input left before after line why NoMemory fault writes = at_first writes
-refused_says input left before after line why Done fault writes = absurd writes
-refused_says input left before after line why Usage fault writes = absurd writes
-refused_says input left before after line why ReadFault fault writes = absurd writes
-refused_says input left before after line why Unexpected fault writes = absurd writes
-refused_says input left before after line why TooLarge fault writes = absurd writes
-refused_says input left before after line why NotLawful fault writes = absurd writes
+refused_says input left before after line why _ fault writes = absurd writes
 
 pub refusal_may : (line : ℕ) (why : InputCause) (before after : Option (List ℕ)) (status : Status) → WritesFault line why before after status
     → MayAnswer true live IsReplayOutput status
 refusal_may line why before after Refused writes = tt
 refusal_may line why before after WriteFault writes = tt
 refusal_may line why before after NoMemory writes = refl
-refusal_may line why before after Done writes = absurd writes
-refusal_may line why before after Usage writes = absurd writes
-refusal_may line why before after ReadFault writes = absurd writes
-refusal_may line why before after Unexpected writes = absurd writes
-refusal_may line why before after TooLarge writes = absurd writes
-refusal_may line why before after NotLawful writes = absurd writes
+refusal_may line why before after _ writes = absurd writes
 
 pub fault_says : (line : ℕ) (why : InputCause) (before after : Option (List ℕ)) (status : Status) → WritesFault line why before after status
     → (input : List ℕ) (left : Option (List ℕ)) → StopsBy input left (stop.Refused line why) → SaysLive input left before after status
@@ -66,22 +56,12 @@ amid_says before input left a = amid_head a refl
 -- the status of a failed read is that of this end alone
 pub read_fault_by : (how : LiveEnd) → status_of how ≡ ReadFault → how ≡ end.ReadFault
 read_fault_by end.ReadFault e = refl
-read_fault_by end.Done e = cc
-read_fault_by end.Unexpected e = cc
-read_fault_by end.Refused e = cc
-read_fault_by end.TooLarge e = cc
-read_fault_by end.WriteFault e = cc
-read_fault_by end.NoMemory e = cc
+read_fault_by _ e = cc
 
 -- and that of a failed write
 pub write_fault_by : (how : LiveEnd) → status_of how ≡ WriteFault → how ≡ end.WriteFault
 write_fault_by end.WriteFault e = refl
-write_fault_by end.Done e = cc
-write_fault_by end.Unexpected e = cc
-write_fault_by end.Refused e = cc
-write_fault_by end.TooLarge e = cc
-write_fault_by end.ReadFault e = cc
-write_fault_by end.NoMemory e = cc
+write_fault_by _ e = cc
 
 -- the run that follows from the head
 module _ (input : List ℕ) (head : Head) (reading : Reading) (from left before after : Option (List ℕ)) (k : IsBehind input head reading from) where
@@ -136,13 +116,10 @@ run_says (Some input) (Some unread) left before after head reading how k r at_en
     (subst (λ (u : List ℕ). Reaches head.cluster head.journal reading u left before after how) same r) at_end
 
 pub run_may : (how : LiveEnd) → MayAnswer true live IsReplayOutput (status_of how)
-run_may end.Done = tt
-run_may end.Unexpected = tt
-run_may end.Refused = tt
 run_may end.TooLarge = refl
 run_may end.ReadFault = refl
-run_may end.WriteFault = tt
 run_may end.NoMemory = refl
+run_may _ = tt
 
 -- what is said of the source as it is lent on: that of the reader, of the answers and at the end
 module _ {S : Type 0} (left : S → Option (List ℕ)) where
@@ -178,17 +155,14 @@ module _ {S : Type 0} (left : S → Option (List ℕ)) where
       (Bears-then alone failed (status_of how ≡ ReadFault) (faults over) (faults begun) (faults done) none first
       (Bears-as alone (how ≡ end.ReadFault) (status_of how ≡ ReadFault) (faults begun) (faults done) (λ e. ap status_of e) (read_fault_by how) last))))
 
-  pub run_told : (src over begun asked done final : S) (before after : Option (List ℕ)) (head : Head) (reading at : Reading) (how : LiveEnd) (status : Status)
-      → over ≡ src → asked ≡ begun → final ≡ done → at ≡ reading → status ≡ status_of how
+  pub run_told : (src over begun done final : S) (before after : Option (List ℕ)) (head : Head) (reading : Reading) (how : LiveEnd) (status : Status)
+      → over ≡ src → final ≡ done → status ≡ status_of how
       → IfSome (left over) (λ input. IsBehind input head reading (left begun))
-      → IfSome (left asked) (λ unread. Reaches head.cluster head.journal at unread (left done) before after how)
+      → IfSome (left begun) (λ unread. Reaches head.cluster head.journal reading unread (left done) before after how)
       → (how ≡ end.Done → IfSome (left done) (λ l. l ≡ []))
       → IfSome (left src) (λ input. SaysLive input (left final) before after status)
-  run_told src over begun asked done final before after head reading at how status lent asks back same is behind reaches at_end =
-      let reached_now : IfSome (left begun) (λ unread. Reaches head.cluster head.journal reading unread (left done) before after how)
-      = subst (λ (s : S). IfSome (left s) (λ unread. Reaches head.cluster head.journal reading unread (left done) before after how)) asks
-      (subst (λ (r : Reading). IfSome (left asked) (λ unread. Reaches head.cluster head.journal r unread (left done) before after how)) same reaches) in
+  run_told src over begun done final before after head reading how status lent back is behind reaches at_end =
       subst (λ (s : S). IfSome (left s) (λ input. SaysLive input (left final) before after status)) lent
       (subst (λ (s : S). IfSome (left over) (λ input. SaysLive input (left s) before after status)) (sym back)
       (subst (λ (s : Status). IfSome (left over) (λ input. SaysLive input (left done) before after s)) (sym is)
-      (run_says (left over) (left begun) (left done) before after head reading how behind reached_now at_end)))
+      (run_says (left over) (left begun) (left done) before after head reading how behind reaches at_end)))

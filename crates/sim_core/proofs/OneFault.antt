@@ -1,9 +1,9 @@
 -- A run has at most one first line that isn't the due one.
-use Rattle.std.proofs.Common.{arith, ◌≡◌, ◌⊎◌, inl, inr, ◌<◌, nat_lt, ℕ, zero, suc, Bool, true, false, List, [], ◌∷◌, length, take, drop, refl, sym, subst, ap, ◌∙◌}
+use Rattle.std.proofs.Common.{arith, ◌≡◌, ◌⊎◌, inl, inr, ◌<◌, nat_lt, ℕ, Bool, true, false, List, length, take, drop, get_or, refl, sym, subst, ap, ◌∙◌}
 use Rattle.std.specs.Prelude.{Option, Some, slice_get}
 use Rattle.std.proofs.lemmas.Bool.Decides.{nat_tests}
-use Rattle.std.proofs.lemmas.List.{length-take-le, take-append-drop}
-use Rattle.std.proofs.lemmas.Option.{none-some}
+use Rattle.std.proofs.lemmas.List.{get_or-take, length-take, length-take-le, take-append-drop}
+use Rattle.std.proofs.lemmas.Option.{get_or_from_slice_get, slice_get-get_or, slice_get_within}
 use Rattle.cluster_types.specs.declared.cluster.Cluster.{Cluster}
 use Rattle.cluster_types.specs.declared.journal.Answer.{Answer}
 use Rattle.cluster_types.specs.declared.journal.Journal.{Journal}
@@ -24,17 +24,14 @@ record StandsAt {X : Type 0} (xs : List X) (i : ℕ) : Type 0 where
   there : slice_get xs i ≡ Some what
 
 earlier : {X : Type 0} (xs : List X) (i j : ℕ) (x : X) → i < j → slice_get xs j ≡ Some x → StandsAt xs i
-earlier [] i j x low e = absurd (none-some x e)
-earlier (y ∷ xs) zero j x low e = record { what = y; there = refl }
-earlier (y ∷ xs) (suc i) zero x low e = absurd (omega arith)
-earlier (y ∷ xs) (suc i) (suc j) x low e = let s = earlier xs i j x (omega (arith, low)) e in record { what = s.what; there = s.there }
+earlier xs i j x low e = let w = slice_get_within xs j x e in record { what = get_or xs i x; there = slice_get-get_or xs i x (omega (arith, low, w)) }
 
 -- what stands at a place stands in each front that reaches beyond it, and the other way round
 into_front : {X : Type 0} (n i : ℕ) (xs : List X) (x : X) → i < n → slice_get xs i ≡ Some x → slice_get (take n xs) i ≡ Some x
-into_front zero i xs x low e = absurd (omega arith)
-into_front (suc n) i [] x low e = absurd (none-some x e)
-into_front (suc n) zero (y ∷ xs) x low e = e
-into_front (suc n) (suc i) (y ∷ xs) x low e = into_front n i xs x (omega (arith, low)) e
+into_front n i xs x low e =
+    let w = slice_get_within xs i x e in
+    let l = length-take n xs in
+    slice_get-get_or (take n xs) i x (omega (arith, low, w, l)) ∙ ap Some (get_or-take n xs i x low ∙ get_or_from_slice_get xs i x x e)
 
 from_front : {X : Type 0} (n i : ℕ) (xs : List X) (x : X) → slice_get (take n xs) i ≡ Some x → slice_get xs i ≡ Some x
 from_front n i xs x e = subst (λ ys. slice_get ys i ≡ Some x) (take-append-drop n xs) (in_front (take n xs) (drop n xs) i x e)

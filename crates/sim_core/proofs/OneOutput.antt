@@ -1,5 +1,5 @@
 -- An input gets one status and one text with each word.
-use Rattle.std.proofs.Common.{◌≡◌, ℕ, List, sym, ap, subst, ◌∙◌}
+use Rattle.std.proofs.Common.{◌≡◌, ℕ, List, refl, sym, ap, subst, ◌∙◌}
 use Rattle.cases.specs.Case.{case_text}
 use Rattle.cluster_types.specs.declared.journal.Action.{Action}
 use Rattle.cluster_types.specs.Plans.{precedes_by_number}
@@ -7,9 +7,8 @@ use Rattle.cluster_types.specs.Steps.{numbered}
 use Rattle.cluster_types.specs.Texts.{graph_text, scores_text}
 use Rattle.decision_account.proofs.OneAccount as account
 use Rattle.input_reading.specs.declared.input.reading.Input.{Input}
-use Rattle.input_reading.specs.Causes.{refusal_text}
-use Rattle.input_reading.specs.Reading.{ReadsInput}
-use Rattle.input_reading.proofs.OneReading.{one_fault, one_input}
+use Rattle.input_reading.specs.Reading.{IsTextRefused, ReadsInput}
+use Rattle.input_reading.proofs.OneReading.{not_both, one_fault, one_input}
 use Rattle.input_reading.proofs.ValidInput.{journal_rests}
 use Rattle.plan_laws.proofs.OnePlacement.{one_placement}
 use Rattle.plan_laws.proofs.OnePlan.{one_list}
@@ -23,14 +22,13 @@ use Rattle.sim_core.specs.Check.{IsCheckText}
 use Rattle.sim_core.specs.Commands.{Gets}
 use Rattle.sim_core.specs.GenSummary.{IsSummaryText}
 use Rattle.sim_core.specs.Graph.{IsGraphText}
-use Rattle.sim_core.specs.Outputs.{IsOutput, IsRefusalText, IsTextOf}
+use Rattle.sim_core.specs.Outputs.{IsOutput, IsRefusal, IsTextOf}
 use Rattle.sim_core.specs.Scores.{IsScoresText}
 use Rattle.sim_core.specs.Survive.{IsSurviveText}
 use Rattle.sim_core.specs.Why.{IsWhyOf}
 use Rattle.sim_core.specs.World.{IsWorldOf}
-use Rattle.sim_core.proofs.OneAudit.{AreExcluded, one_audit_text}
-use Rattle.sim_core.proofs.OneOutcome.{one_status}
-use Rattle.sim_core.proofs.OneReplay.{OneEnd, one_replay_text}
+use Rattle.sim_core.proofs.OneAudit.{one_audit, one_refusal}
+use Rattle.sim_core.proofs.OneReplay.{one_replay}
 use Rattle.sim_core.proofs.OneReport.{one_report}
 use Rattle.sim_core.proofs.OneSummary.{one_summary}
 
@@ -45,15 +43,17 @@ module _ (input : List ℕ) (Says : Input → List ℕ → Type 0) (one : SaysOn
       let same : b.whole ≡ a.whole = one_input input b.whole a.whole b.reads a.reads in
       one a.whole text more a.reads a.says (subst (λ (w : Input). Says w more) same b.says)
 
-  one_refusal : (text more : List ℕ) → IsRefusalText input text → IsRefusalText input more → text ≡ more
-  one_refusal text more a b =
-      let same = one_fault input a.line b.line a.why b.why a.fault b.fault in
-      a.printed ∙ (ap (λ n. refusal_text n a.why) same.0 ∙ (ap (refusal_text b.line) same.1 ∙ sym b.printed))
+  read_or_refused : (text more : List ℕ) → IsTextOf Says input text → ¬ IsRefusal (IsTextRefused input) more
+  read_or_refused text more a b = not_both input (record { whole = a.whole; reads = a.reads }) (record { line = b.line; why = b.why; fault = b.fault })
 
-  said_once : (text more : List ℕ) (status : Status) → IsOutput Says input status text → IsOutput Says input status more → text ≡ more
-  said_once text more Done a b = one_said text more a b
-  said_once text more Refused a b = one_refusal text more a b
-  said_once text more _ a b = absurd a
+  one_output : (text more : List ℕ) (status other : Status) → IsOutput Says input status text → IsOutput Says input other more → (status ≡ other) × (text ≡ more)
+  one_output text more Done Done a b = (refl, one_said text more a b)
+  one_output text more Done Refused a b = absurd (read_or_refused text more a b)
+  one_output text more Refused Done a b = absurd (read_or_refused more text b a)
+  one_output text more Refused Refused a b = (refl, one_refusal (IsTextRefused input) (one_fault input) text more a b)
+  one_output text more Done _ a b = absurd b
+  one_output text more Refused _ a b = absurd b
+  one_output text more _ other a b = absurd a
 
 -- each word does
 module _ (input : List ℕ) where
@@ -90,23 +90,16 @@ module _ (input : List ℕ) where
   one_world number = λ whole text more reads a b.
       worlds.text_one whole.head.cluster whole.head.journal number (journal_rests input whole reads) text more a b
 
-module _ (one_end : OneEnd) where
-  one_text : (word : Command) (input text more : List ℕ) (status : Status) → Gets word input status text → Gets word input status more → text ≡ more
-  one_text Check input text more status a b = said_once input IsCheckText (one_check input) text more status a b
-  one_text Scores input text more status a b = said_once input IsScoresText (one_scores input) text more status a b
-  one_text Why input text more status a b = said_once input IsWhyOf (one_why input) text more status a b
-  one_text Graph input text more status a b = said_once input IsGraphText (one_graph input) text more status a b
-  one_text Survive input text more status a b = said_once input IsSurviveText (one_survive input) text more status a b
-  one_text Audit input text more status a b = one_audit_text input text more status a b
-  one_text Replay input text more status a b = one_replay_text one_end input text more status a b
-  one_text (Gen number) input text more status a b =
-      said_once (case_text number) (IsSummaryText number) (one_gen (case_text number) number) text more status a b
-  one_text (World number) input text more status a b = said_once input (IsWorldOf number) (one_world input number) text more status a b
-  one_text Help input text more status a b = a.1 ∙ sym b.1
-  one_text Version input text more status a b = a.1 ∙ sym b.1
-
-  pub gets_one : AreExcluded → (word : Command) (input text more : List ℕ) (status other : Status) → Gets word input status text → Gets word input other more
-      → (status ≡ other) × (text ≡ more)
-  gets_one excluded word input text more status other a b =
-      let same : other ≡ status = one_status one_end excluded word input more text other status b a in
-      (sym same, one_text word input text more status a (subst (λ (s : Status). Gets word input s more) same b))
+pub gets_one : (word : Command) (input text more : List ℕ) (status other : Status) → Gets word input status text → Gets word input other more → (status ≡ other) × (text ≡ more)
+gets_one Check input text more status other a b = one_output input IsCheckText (one_check input) text more status other a b
+gets_one Scores input text more status other a b = one_output input IsScoresText (one_scores input) text more status other a b
+gets_one Why input text more status other a b = one_output input IsWhyOf (one_why input) text more status other a b
+gets_one Graph input text more status other a b = one_output input IsGraphText (one_graph input) text more status other a b
+gets_one Survive input text more status other a b = one_output input IsSurviveText (one_survive input) text more status other a b
+gets_one Audit input text more status other a b = one_audit input text more status other a b
+gets_one Replay input text more status other a b = one_replay input text more status other a b
+gets_one (Gen number) input text more status other a b =
+    one_output (case_text number) (IsSummaryText number) (one_gen (case_text number) number) text more status other a b
+gets_one (World number) input text more status other a b = one_output input (IsWorldOf number) (one_world input number) text more status other a b
+gets_one Help input text more status other a b = (a.0 ∙ sym b.0, a.1 ∙ sym b.1)
+gets_one Version input text more status other a b = (a.0 ∙ sym b.0, a.1 ∙ sym b.1)

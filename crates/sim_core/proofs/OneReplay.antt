@@ -8,18 +8,16 @@ use Rattle.live_run.specs.Heads as heads
 use Rattle.live_run.specs.declared.live_end.LiveEnd.{LiveEnd}
 use Rattle.live_run.specs.declared.live_end.LiveEnd.TheVariants as end
 use Rattle.live_run.specs.Ends as ends
+use Rattle.live_run.proofs.Dues.{one_end}
 use Rattle.input_reading.specs.declared.input.cause.InputCause.{InputCause}
 use Rattle.input_reading.specs.declared.input.reading.Head.{Head}
 use Rattle.sim_core.specs.declared.status.Status.{Status}
 use Rattle.sim_core.specs.declared.status.Status.TheVariants.{Done, Refused, TooLarge, Unexpected}
-use Rattle.input_reading.specs.Causes.{refusal_text}
 use Rattle.input_reading.specs.Reading.{lone_head_of}
-use Rattle.sim_core.specs.Replay.{IsHeadRead, IsHeadFault, IsHeadRefusal, IsHeadTooLarge, IsReplayOutput, IsTextOfRun, coming_behind, head_in, words_refused, head_refused}
-
--- a run gets one end
-abbrev pub OneEnd : Type 0
-OneEnd = (c : Cluster) (journal : Journal) (coming : Coming) (one other : LiveEnd) (text also : List ℕ) → ends.EndGets c journal coming one text
-    → ends.EndGets c journal coming other also → (one ≡ other) × (text ≡ also)
+use Rattle.sim_core.specs.Inner.LiveSteps.{status_of}
+use Rattle.sim_core.specs.Outputs.{IsRefusal}
+use Rattle.sim_core.specs.Replay.{IsHeadRead, IsHeadFault, IsHeadTooLarge, IsReplayOutput, IsTextOfRun, coming_behind, head_in, words_refused, head_refused}
+use Rattle.sim_core.proofs.OneAudit.{one_refusal}
 
 -- what a head says of which this is known
 module _ (input : List ℕ) where
@@ -82,94 +80,39 @@ module _ (input : List ℕ) where
       let same : bytes ≡ more = cc in
       let fault = sym says ∙ (ap lone_head_of same ∙ said) in (cc, cc)
 
-module _ (one_end : OneEnd) (input : List ℕ) where
   -- two runs that follow from a head have one end and one text
   one_run : (one other : LiveEnd) (text also : List ℕ) → IsTextOfRun (λ c journal coming. ends.EndGets c journal coming one) input text
       → IsTextOfRun (λ c journal coming. ends.EndGets c journal coming other) input also → (one ≡ other) × (text ≡ also)
   one_run one other text also a b =
-      let same = same_head input a.bytes b.bytes a.head b.head a.next b.next a.room b.room a.begun b.begun in
+      let same = same_head a.bytes b.bytes a.head b.head a.next b.next a.room b.room a.begun b.begun in
       one_end b.head.cluster b.head.journal (coming_behind input b.bytes b.head b.next b.room) one other text also
-      (carried input (λ c journal coming. ends.EndGets c journal coming one text) a.bytes b.bytes a.head b.head a.next b.next a.room b.room same a.says) b.says
+      (carried (λ c journal coming. ends.EndGets c journal coming one text) a.bytes b.bytes a.head b.head a.next b.next a.room b.room same a.says) b.says
 
-  refusal_or_run : {Says : Cluster → Journal → Coming → List ℕ → Type 0} (text also : List ℕ) → IsHeadRefusal input text → ¬ IsTextOfRun Says input also
-  refusal_or_run text also a b = no_fault input b.bytes b.head b.next b.room a.line a.why b.begun a.fault
+  -- an input gets the fault of its head, nothing where that is too large, or the text of its run
+  data Output : Status → List ℕ → Type 0 where
+    is_refused : (text : List ℕ) → IsRefusal (IsHeadFault input) text → Output Refused text
+    is_large : (text : List ℕ) → IsHeadTooLarge input text → Output TooLarge text
+    is_run : (how : LiveEnd) (text : List ℕ) → IsTextOfRun (λ c journal coming. ends.EndGets c journal coming how) input text → Output (status_of how) text
 
-  large_or_run : {Says : Cluster → Journal → Coming → List ℕ → Type 0} (text also : List ℕ) → IsHeadTooLarge input text → ¬ IsTextOfRun Says input also
-  large_or_run text also a b = not_too_large input b.bytes b.head b.next b.room b.begun a.is
+  output_of : (status : Status) (text : List ℕ) → IsReplayOutput input status text → Output status text
+  output_of Done text o = is_run end.Done text o
+  output_of Unexpected text o = is_run end.Unexpected text o
+  output_of Refused text (inl o) = is_refused text o
+  output_of Refused text (inr o) = is_run end.Refused text o
+  output_of TooLarge text (inl o) = is_large text o
+  output_of TooLarge text (inr o) = is_run end.TooLarge text o
+  output_of _ text o = absurd o
 
-  refusal_or_large : (text also : List ℕ) → IsHeadRefusal input text → ¬ IsHeadTooLarge input also
-  refusal_or_large text also a b = faulty_not_too_large input a.line a.why a.fault b.is
+  one_output : (text more : List ℕ) (status other : Status) → Output status text → Output other more → (status ≡ other) × (text ≡ more)
+  one_output _ _ _ _ (is_refused text a) (is_refused more b) = (refl, one_refusal (IsHeadFault input) one_head_fault text more a b)
+  one_output _ _ _ _ (is_refused text a) (is_large more b) = absurd (faulty_not_too_large a.line a.why a.fault b.is)
+  one_output _ _ _ _ (is_refused text a) (is_run how more b) = absurd (no_fault b.bytes b.head b.next b.room a.line a.why b.begun a.fault)
+  one_output _ _ _ _ (is_large text a) (is_refused more b) = absurd (faulty_not_too_large b.line b.why b.fault a.is)
+  one_output _ _ _ _ (is_large text a) (is_large more b) = (refl, a.printed ∙ sym b.printed)
+  one_output _ _ _ _ (is_large text a) (is_run how more b) = absurd (not_too_large b.bytes b.head b.next b.room b.begun a.is)
+  one_output _ _ _ _ (is_run how text a) (is_refused more b) = absurd (no_fault a.bytes a.head a.next a.room b.line b.why a.begun b.fault)
+  one_output _ _ _ _ (is_run how text a) (is_large more b) = absurd (not_too_large a.bytes a.head a.next a.room a.begun b.is)
+  one_output _ _ _ _ (is_run how text a) (is_run other more b) = let one = one_run how other text more a b in (ap status_of one.0, one.1)
 
-  -- each pair of statuses
-  done_cut : (text also : List ℕ) → IsReplayOutput input Done text → ¬ IsReplayOutput input Unexpected also
-  done_cut text also a b = let e : end.Done ≡ end.Unexpected = (one_run end.Done end.Unexpected text also a b).0 in absurd cc
-
-  done_refused : (text also : List ℕ) → IsReplayOutput input Done text → ¬ IsReplayOutput input Refused also
-  done_refused text also a (inl b) = refusal_or_run also text b a
-  done_refused text also a (inr b) = let e : end.Done ≡ end.Refused = (one_run end.Done end.Refused text also a b).0 in absurd cc
-
-  done_large : (text also : List ℕ) → IsReplayOutput input Done text → ¬ IsReplayOutput input TooLarge also
-  done_large text also a (inl b) = large_or_run also text b a
-  done_large text also a (inr b) = let e : end.Done ≡ end.TooLarge = (one_run end.Done end.TooLarge text also a b).0 in absurd cc
-
-  cut_refused : (text also : List ℕ) → IsReplayOutput input Unexpected text → ¬ IsReplayOutput input Refused also
-  cut_refused text also a (inl b) = refusal_or_run also text b a
-  cut_refused text also a (inr b) = let e : end.Unexpected ≡ end.Refused = (one_run end.Unexpected end.Refused text also a b).0 in absurd cc
-
-  cut_large : (text also : List ℕ) → IsReplayOutput input Unexpected text → ¬ IsReplayOutput input TooLarge also
-  cut_large text also a (inl b) = large_or_run also text b a
-  cut_large text also a (inr b) = let e : end.Unexpected ≡ end.TooLarge = (one_run end.Unexpected end.TooLarge text also a b).0 in absurd cc
-
-  refused_large : (text also : List ℕ) → IsReplayOutput input Refused text → ¬ IsReplayOutput input TooLarge also
-  refused_large text also (inl a) (inl b) = refusal_or_large text also a b
-  refused_large text also (inl a) (inr b) = refusal_or_run text also a b
-  refused_large text also (inr a) (inl b) = large_or_run also text b a
-  refused_large text also (inr a) (inr b) = let e : end.Refused ≡ end.TooLarge = (one_run end.Refused end.TooLarge text also a b).0 in absurd cc
-
-  pub one_replay : (text more : List ℕ) (status other : Status) → IsReplayOutput input status text → IsReplayOutput input other more → status ≡ other
-  one_replay text more Done Done a b = refl
-  one_replay text more Done Unexpected a b = absurd (done_cut text more a b)
-  one_replay text more Done Refused a b = absurd (done_refused text more a b)
-  one_replay text more Done TooLarge a b = absurd (done_large text more a b)
-  one_replay text more Unexpected Done a b = absurd (done_cut more text b a)
-  one_replay text more Unexpected Unexpected a b = refl
-  one_replay text more Unexpected Refused a b = absurd (cut_refused text more a b)
-  one_replay text more Unexpected TooLarge a b = absurd (cut_large text more a b)
-  one_replay text more Refused Done a b = absurd (done_refused more text b a)
-  one_replay text more Refused Unexpected a b = absurd (cut_refused more text b a)
-  one_replay text more Refused Refused a b = refl
-  one_replay text more Refused TooLarge a b = absurd (refused_large text more a b)
-  one_replay text more TooLarge Done a b = absurd (done_large more text b a)
-  one_replay text more TooLarge Unexpected a b = absurd (cut_large more text b a)
-  one_replay text more TooLarge Refused a b = absurd (refused_large more text b a)
-  one_replay text more TooLarge TooLarge a b = refl
-  one_replay text more Done _ a b = absurd b
-  one_replay text more Unexpected _ a b = absurd b
-  one_replay text more Refused _ a b = absurd b
-  one_replay text more TooLarge _ a b = absurd b
-  one_replay text more _ other a b = absurd a
-
-  -- and each status has one text
-  one_refusal : (text also : List ℕ) → IsHeadRefusal input text → IsHeadRefusal input also → text ≡ also
-  one_refusal text also a b =
-      let same = one_head_fault input a.line b.line a.why b.why a.fault b.fault in
-      a.printed ∙ (ap (λ n. refusal_text n a.why) same.0 ∙ (ap (refusal_text b.line) same.1 ∙ sym b.printed))
-
-  one_refused : (text also : List ℕ) → IsReplayOutput input Refused text → IsReplayOutput input Refused also → text ≡ also
-  one_refused text also (inl a) (inl b) = one_refusal text also a b
-  one_refused text also (inl a) (inr b) = absurd (refusal_or_run text also a b)
-  one_refused text also (inr a) (inl b) = absurd (refusal_or_run also text b a)
-  one_refused text also (inr a) (inr b) = (one_run end.Refused end.Refused text also a b).1
-
-  one_large : (text also : List ℕ) → IsReplayOutput input TooLarge text → IsReplayOutput input TooLarge also → text ≡ also
-  one_large text also (inl a) (inl b) = a.printed ∙ sym b.printed
-  one_large text also (inl a) (inr b) = absurd (large_or_run text also a b)
-  one_large text also (inr a) (inl b) = absurd (large_or_run also text b a)
-  one_large text also (inr a) (inr b) = (one_run end.TooLarge end.TooLarge text also a b).1
-
-  pub one_replay_text : (text more : List ℕ) (status : Status) → IsReplayOutput input status text → IsReplayOutput input status more → text ≡ more
-  one_replay_text text more Done a b = (one_run end.Done end.Done text more a b).1
-  one_replay_text text more Unexpected a b = (one_run end.Unexpected end.Unexpected text more a b).1
-  one_replay_text text more Refused a b = one_refused text more a b
-  one_replay_text text more TooLarge a b = one_large text more a b
-  one_replay_text text more _ a b = absurd a
+  pub one_replay : (text more : List ℕ) (status other : Status) → IsReplayOutput input status text → IsReplayOutput input other more → (status ≡ other) × (text ≡ more)
+  one_replay text more status other a b = one_output text more status other (output_of status text a) (output_of other more b)

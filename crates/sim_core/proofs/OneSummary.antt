@@ -1,5 +1,5 @@
 -- A number has one summary.
-use Rattle.std.proofs.Common.{arith, ◌≡◌, ℕ, true, Some, List, [], ◌∷◌, ◌++◌, length, filter, codes, sym, ap, ◌∙◌}
+use Rattle.std.proofs.Common.{◌≡◌, ℕ, true, Some, List, [], ◌∷◌, ◌++◌, length, filter, codes, sym, ap, ◌∙◌}
 use Rattle.std.specs.List.{AllByRecursion}
 use Rattle.cluster_types.specs.declared.cluster.Cluster.{Cluster}
 use Rattle.cluster_types.specs.declared.journal.Answer.{Answer}
@@ -15,7 +15,7 @@ use Rattle.run_safety.proofs.OneEnd.{cut_one, whole_one, whole_or_cut}
 use Rattle.run_safety.proofs.PlansAreOne.{plans_one}
 use Rattle.sim_core.specs.GenSummary.{IsRunOf, IsSummaryText, answers_of, cut, to_its_end}
 use Rattle.sim_core.specs.Summary.{case_lines, count_line, is_begin, is_good_end, last_targets}
-use Rattle.sim_core.proofs.Tallied.{Tally, cells_at_last, tally, tally_all}
+use Rattle.sim_core.proofs.Tallied.{Tally, nothing, tally, tally_all}
 
 -- the transitions of a run that is kept fit
 pub all_fit : (c : Cluster) (promotions : List Promotion) (es : List Event) (ps : List Passed) → AllByRecursion (IsPassedOfPlan c promotions es) ps → AllByRecursion (PassedFits c es) ps
@@ -44,18 +44,8 @@ counted c number transitions es targets =
 pub one_summary : (number : ℕ) (whole : Input) (text other : List ℕ) → IsSummaryText number whole text → IsSummaryText number whole other → text ≡ other
 one_summary number whole text other a b =
     let c = whole.head.cluster in
-    let promotions = whole.head.journal.promotions in
     let same = one_run c whole.head.journal (answers_of whole.results) a.run b.run a.is b.is in
-    let none : Tally = record { transitions = 0; targets = 0 } in
-    let my_fit = all_fit c promotions a.run.journal.events a.run.passed a.plans in
-    let its_fit = all_fit c promotions b.run.journal.events b.run.passed b.plans in
-    let mine = tally_all c a.run.journal.events none 1 a.run.passed my_fit in
-    let its = tally_all c b.run.journal.events none 1 b.run.passed its_fit in
-    let tallies = sym mine ∙ (ap (tally none) same.0 ∙ its) in
-    let transitions : length a.run.passed ≡ length b.run.passed = (let e = ap (λ (t : Tally). t.transitions) tallies in omega (arith, e)) in
-    let targets : last_targets c a.run.passed ≡ last_targets c b.run.passed
-    = sym (cells_at_last c a.run.journal.events a.run.passed my_fit) ∙ (ap (λ (t : Tally). t.targets) tallies ∙ cells_at_last c b.run.journal.events b.run.passed its_fit) in
+    let tallies = sym (tally_all c a.run.journal.events a.run.passed) ∙ (ap (tally nothing) same.0 ∙ tally_all c b.run.journal.events b.run.passed) in
     a.printed
-    ∙ (ap (λ n. counted c number n a.run.journal.events (last_targets c a.run.passed)) transitions
-    ∙ (ap (λ es. counted c number (length b.run.passed) es (last_targets c a.run.passed)) same.1
-    ∙ (ap (counted c number (length b.run.passed) b.run.journal.events) targets ∙ sym b.printed)))
+    ∙ (ap (λ (t : Tally). counted c number t.transitions a.run.journal.events t.targets) tallies
+    ∙ (ap (λ es. counted c number (length b.run.passed) es (last_targets c b.run.passed)) same.1 ∙ sym b.printed))

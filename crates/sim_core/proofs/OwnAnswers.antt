@@ -1,7 +1,7 @@
 -- A run is that of the answers which its own lines tell. An end that nobody reported prints the line of the answer that it stands for.
-use Rattle.std.proofs.Common.{◌≡◌, Bool, true, List, [], ◌∷◌, ◌++◌, filter, append-nil, append_assoc, refl, sym, ap, subst, ◌∙◌}
+use Rattle.std.proofs.Common.{◌≡◌, Bool, true, List, [], ◌∷◌, ◌++◌, append-nil, append_assoc, refl, sym, ap, subst, ◌∙◌}
 use Rattle.std.specs.Prelude.{Option, Some}
-use Rattle.std.specs.List.{flat_map}
+use Rattle.std.specs.List.{AllByRecursion, flat_map}
 use Rattle.std.proofs.lemmas.Grind.{flat_map-append}
 use Rattle.cluster_types.specs.declared.cluster.Cluster.{Cluster}
 use Rattle.cluster_types.specs.declared.journal.Answer.{Answer}
@@ -16,27 +16,20 @@ use Rattle.cluster_types.specs.Plans.{transition_of}
 use Rattle.cluster_types.specs.Runs.{RunStanding, due, amid, idle, RunsOn, plans, goes, completes, aborts, answers, Runs, here, one_more, IsOver, IsWholeRun}
 use Rattle.cluster_types.specs.Sources.{told, used_up}
 use Rattle.cluster_types.specs.Steps.{Transition, StepsOn, begins, takes, is_silent, TakesAnswer, answer_events, silent_code}
+use Rattle.cluster_types.specs.Tables.{targets_of}
 use Rattle.cluster_types.specs.Texts.{event_lines}
 use Rattle.graph_exec.specs.WatcherLines.{plan_lines}
 use Rattle.lemmas.proofs.Booleans.{number_itself}
 use Rattle.run_safety.proofs.InFlight.{among_flying}
 use Rattle.run_safety.proofs.Printed.{answer_line}
-use Rattle.sim_core.specs.Inner.Auditors.{is_event_line}
 use Rattle.sim_core.specs.LawfulRuns.{IsLawfulRun, answer_in, answers_of_lines}
-use Rattle.sim_core.proofs.Shows.{none_of_plan}
+use Rattle.written_runs.proofs.Telling.{IsOfPlanning, plan_lines as of_planning}
 
--- lines none of which is of an event tell no answer
-no_answers : (lines : List RunLine) → filter is_event_line lines ≡ [] → answers_of_lines lines ≡ []
+-- lines of a plan tell no answer
+no_answers : (lines : List RunLine) → AllByRecursion IsOfPlanning lines → answers_of_lines lines ≡ []
 no_answers [] h = refl
-no_answers (line.Transition k ∷ lines) h = no_answers lines h
-no_answers (line.Pinned r pin ∷ lines) h = no_answers lines h
-no_answers (line.Goal r n target ∷ lines) h = no_answers lines h
-no_answers (line.Lacking r reason ∷ lines) h = no_answers lines h
-no_answers (line.Begin k a ∷ lines) h = absurd (let f : ⊥ = cc in f)
-no_answers (line.Taken given ∷ lines) h = absurd (let f : ⊥ = cc in f)
-no_answers (line.Complete k ∷ lines) h = no_answers lines h
-no_answers (line.Aborted k ∷ lines) h = no_answers lines h
-no_answers (line.Unexpected l ∷ lines) h = no_answers lines h
+no_answers (line.Taken given ∷ lines) h = absurd h.0
+no_answers (_ ∷ lines) h = no_answers lines h.1
 
 -- of the answers that lines tell, with some behind them, the step of these lines leaves those
 module _ (t : Transition) (whole : Bool) (since : List Event) (more : List Answer) where
@@ -59,7 +52,7 @@ module _ (c : Cluster) (promotions : List Promotion) (whole : Bool) where
   one_own : (at next : RunStanding) (rest left : Option (List Answer)) (lines : List RunLine) (more : List Answer) → RunsOn c promotions whole at rest lines next left
       → RunsOn c promotions true at (Some (answers_of_lines lines ++ more)) lines next (Some more)
   one_own _ _ _ _ _ more (plans k es _ placed actions plan) =
-      let none : answers_of_lines (plan_lines c k placed) ≡ [] = no_answers (plan_lines c k placed) (none_of_plan c k placed) in
+      let none : answers_of_lines (plan_lines c k placed) ≡ [] = no_answers (plan_lines c k placed) (of_planning c placed.pins (targets_of placed.table) placed.none k) in
       subst (λ (given : List Answer). RunsOn c promotions true (due k es) (Some (given ++ more)) (plan_lines c k placed) (amid k (transition_of c es actions) []) (Some more)) (sym none)
       (plans k es (Some more) placed actions plan)
   one_own _ _ _ _ _ more (goes k t since events rest left step) =

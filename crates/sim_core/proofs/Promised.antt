@@ -33,7 +33,7 @@ use Rattle.written_runs.proofs.SafeLines.{safe_lines}
 use Rattle.sim_core.specs.declared.status.Status.{Status}
 use Rattle.sim_core.specs.declared.status.Status.TheVariants.{Done, NoMemory, Usage, ReadFault, WriteFault, Refused, Unexpected, TooLarge, NotLawful}
 use Rattle.sim_core.specs.declared.words.Command.{Command}
-use Rattle.sim_core.specs.declared.words.Command.TheVariants.{Check, Scores, Why, Graph, Survive, Audit, Replay, Gen, World, Help, Version}
+use Rattle.sim_core.specs.declared.words.Command.TheVariants.{Replay}
 use Rattle.sim_core.specs.Answers.{IsWritten, WordAnswers}
 use Rattle.sim_core.specs.Headline.{HasOnePlan, HasPrinted, HasWrittenFront, IsOfHead, IsOneSafeRun, IsSafeAllTheWay, IsSafeOutput, IsTextOfOneSafeRun, WritesASafeRun}
 use Rattle.sim_core.specs.LiveAnswers.{HasWrittenReplay, SaysLive, amid_head, behind_head, of_head, of_run, at_first, between_two}
@@ -99,11 +99,7 @@ module _ (input : List ℕ) where
   output_safe Refused text (inr out) = inr (text_safe end.Refused text out)
   output_safe TooLarge text (inl large) = inl large
   output_safe TooLarge text (inr out) = inr (text_safe end.TooLarge text out)
-  output_safe NoMemory text out = absurd out
-  output_safe Usage text out = absurd out
-  output_safe ReadFault text out = absurd out
-  output_safe WriteFault text out = absurd out
-  output_safe NotLawful text out = absurd out
+  output_safe _ text out = absurd out
 
   module _ (left before after : Option (List ℕ)) where
     written_safe : (status : Status) → HasWrittenReplay input left before after status → IsWritten (IsSafeOutput input) status before after
@@ -244,13 +240,4 @@ module _ (input : List ℕ) where
 pub promise_kept : (word : Command) (told left before after : Option (List ℕ)) (status : Status) → WordAnswers word told left before after status → intake word ≡ live
     → IfSome told (λ input. WritesASafeRun input before after status)
 promise_kept Replay told left before after status answers is = IfSome_then told answers (λ input says. writes_safe input left before after status says)
-promise_kept Check told left before after status answers is = absurd cc
-promise_kept Scores told left before after status answers is = absurd cc
-promise_kept Why told left before after status answers is = absurd cc
-promise_kept Graph told left before after status answers is = absurd cc
-promise_kept Survive told left before after status answers is = absurd cc
-promise_kept Audit told left before after status answers is = absurd cc
-promise_kept (Gen number) told left before after status answers is = absurd cc
-promise_kept (World number) told left before after status answers is = absurd cc
-promise_kept Help told left before after status answers is = absurd cc
-promise_kept Version told left before after status answers is = absurd cc
+promise_kept _ told left before after status answers is = absurd cc

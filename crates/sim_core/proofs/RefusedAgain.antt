@@ -41,7 +41,7 @@ use Rattle.live_run.proofs.LinesJoined.{are_read, lines_clean, same_words, text_
 use Rattle.sim_core.specs.LineByLine.{HasPlainLines, HasPlainRest, HasRefusedLine, IsRefusedByLine, line_isnt_cut, in_head, is_no_answer}
 use Rattle.sim_core.specs.Replay.{coming_behind, head_in, words_refused, head_refused}
 use Rattle.sim_core.proofs.InputSteps.{by_sections, steps_on, without_sections, without_words}
-use Rattle.sim_core.proofs.InputAgain.{as_together, behind, come_says, comes, faults_are, h, head_read, is_input, others, rest_is, rows, size, together}
+use Rattle.sim_core.proofs.InputAgain.{as_together, behind, come_says, comes, faults_are, h, head_read, is_input, not_past, others, rest_is, rows, together}
 use Rattle.sim_core.proofs.OneReplay.{carried, no_fault, same_head}
 use Rattle.sim_core.proofs.TraceSections.{misplaced_first, misplaced_joined}
 
@@ -231,12 +231,7 @@ module _ (text : List ℕ) (fits : length text ≤ most_bytes) where
       of_stop bytes next room is head says (Some (stop.Refused line (of_line.Form why))) none =
           record { line = line; why = cause.Results why; refused = is_no_answer bytes head next room line why (record { is = is; says = says }) none }
       of_stop bytes next room is head says (Some stop.TooLarge) none =
-          let over = stopped text bytes next room is head (Some stop.TooLarge) none in
-          let front = (h text bytes next room is).within in
-          let bytes_size = ap (λ (bs : List ℕ). length bs) (h text bytes next room is).text_is in
-          let left = (h text bytes next room is).room_is in
-          let whole_size = size text bytes next room is in
-          absurd (omega (arith, front, bytes_size, left, over, whole_size, fits))
+          absurd (not_past text bytes next room is (stopped text bytes next room is head (Some stop.TooLarge) none) fits)
       of_stop bytes next room is head says (Some stop.ReadFault) none = absurd (stopped text bytes next room is head (Some stop.ReadFault) none)
 
       of_start : (bytes : List ℕ) (next room : ℕ) → head_in text ≡ heads.taken bytes next room → (read : Result Head (Fault InputCause)) → lone_head_of bytes ≡ read → HasRefusedLine text

@@ -1,57 +1,32 @@
 -- What an auditor has been shown, call by call.
-use Rattle.std.proofs.Common.{◌≡◌, Bool, true, if◌then◌else◌, ℕ, Option, Some, None, List, [], ◌∷◌, ◌++◌, append-nil, append_assoc, take, refl, sym, ap, subst, ◌∙◌}
-use Rattle.std.specs.Prelude.{filter, length, slice_get, unwrap_or}
-use Rattle.std.specs.List.{flat_map, range_with_len}
+use Rattle.std.proofs.Common.{◌≡◌, Bool, true, if◌then◌else◌, ℕ, List, [], ◌∷◌, ◌++◌, append-nil, append_assoc, take, refl, sym, ap, subst, ◌∙◌}
+use Rattle.std.specs.Prelude.{filter}
+use Rattle.std.specs.List.{AllByRecursion, flat_map}
 use Rattle.std.proofs.lemmas.Grind.{flat_map-append}
 use Rattle.std.proofs.lemmas.List.Elements.{filter-append}
 use Rattle.cluster_types.specs.declared.cluster.Cluster.{Cluster}
 use Rattle.cluster_types.specs.declared.journal.Event.{Event}
-use Rattle.cluster_types.specs.declared.placement.NoReason.{NoReason}
-use Rattle.cluster_types.specs.declared.placement.Pin.{Pin}
 use Rattle.cluster_types.specs.declared.placement.Placed.{Placed}
-use Rattle.cluster_types.specs.declared.placement.Target.{Target}
-use Rattle.cluster_types.specs.declared.placement.Target.TheVariants as target
 use Rattle.cluster_types.specs.declared.run.RunLine.{RunLine}
+use Rattle.cluster_types.specs.declared.run.RunLine.TheVariants as line
 use Rattle.cluster_types.specs.Tables.{targets_of}
-use Rattle.cluster_types.specs.Texts.{event_lines, goal_lines, lacking_lines, leaf_lines, pin_lines}
+use Rattle.cluster_types.specs.Texts.{event_lines}
 use Rattle.graph_exec.specs.declared.transition.watcher.Heard.{Heard}
 use Rattle.graph_exec.specs.declared.transition.watcher.Heard.TheVariants as heard
 use Rattle.graph_exec.specs.WatcherLines.{RunView, StopsAmong, plan_lines, view_later}
 use Rattle.sim_core.specs.declared.auditor.Auditor.{Auditor}
+use Rattle.written_runs.proofs.Telling.{IsOfPlanning, plan_lines as of_planning}
 use Rattle.sim_core.specs.Inner.Auditors.{PassesLines, ShowsEvents, ShowsRun, StopsAtLine, audited_lines, is_event_line}
 
 -- no line of a plan is of an event
-none_in : (f : ℕ → List RunLine) (ns : List ℕ) → ((n : ℕ) → filter is_event_line (f n) ≡ []) → filter is_event_line (flat_map f ns) ≡ []
-none_in f [] h = refl
-none_in f (n ∷ ns) h = filter-append is_event_line (f n) (flat_map f ns) ∙ (ap (λ ls. ls ++ filter is_event_line (flat_map f ns)) (h n) ∙ none_in f ns h)
+none_of : (lines : List RunLine) → AllByRecursion IsOfPlanning lines → filter is_event_line lines ≡ []
+none_of [] h = refl
+none_of (line.Begin k a ∷ lines) h = absurd h.0
+none_of (line.Taken given ∷ lines) h = absurd h.0
+none_of (_ ∷ lines) h = none_of lines h.1
 
-module _ (c : Cluster) where
-  none_of_pin : (r : ℕ) (pin : Option Pin) → filter is_event_line (pin_lines c r pin) ≡ []
-  none_of_pin r None = refl
-  none_of_pin r (Some pin) = refl
-
-  none_of_goal : (r n : ℕ) (goal : Target) → filter is_event_line (goal_lines c r n goal) ≡ []
-  none_of_goal r n target.Nowhere = refl
-  none_of_goal r n target.Started = refl
-  none_of_goal r n target.Promoted = refl
-
-  none_of_reason : (r : ℕ) (reason : Option NoReason) → filter is_event_line (lacking_lines c r reason) ≡ []
-  none_of_reason r None = refl
-  none_of_reason r (Some reason) = refl
-
-  none_of_leaf : (placed : Placed) (r : ℕ) → filter is_event_line (leaf_lines c placed.pins (targets_of placed.table) placed.none r) ≡ []
-  none_of_leaf placed r =
-      let pin = pin_lines c r (unwrap_or (slice_get placed.pins r) None) in
-      let goals = flat_map (λ n. goal_lines c r n (targets_of placed.table r n)) (range_with_len 0 (length c.nodes)) in
-      let reason = lacking_lines c r (unwrap_or (slice_get placed.none r) None) in
-      filter-append is_event_line (pin ++ goals) reason
-      ∙ (ap (λ ls. ls ++ filter is_event_line reason) (filter-append is_event_line pin goals
-      ∙ (ap (λ ls. ls ++ filter is_event_line goals) (none_of_pin r (unwrap_or (slice_get placed.pins r) None))
-      ∙ none_in (λ n. goal_lines c r n (targets_of placed.table r n)) (range_with_len 0 (length c.nodes)) (λ n. none_of_goal r n (targets_of placed.table r n))))
-      ∙ none_of_reason r (unwrap_or (slice_get placed.none r) None))
-
-  pub none_of_plan : (number : ℕ) (placed : Placed) → filter is_event_line (plan_lines c number placed) ≡ []
-  none_of_plan number placed = none_in (leaf_lines c placed.pins (targets_of placed.table) placed.none) (range_with_len 0 (length c.leaves)) (none_of_leaf placed)
+pub none_of_plan : (c : Cluster) (number : ℕ) (placed : Placed) → filter is_event_line (plan_lines c number placed) ≡ []
+none_of_plan c number placed = none_of (plan_lines c number placed) (of_planning c placed.pins (targets_of placed.table) placed.none number)
 
 -- of lines none of which is of an event, none of the first is
 first_none : (front behind lines : List RunLine) → lines ≡ front ++ behind → filter is_event_line lines ≡ [] → filter is_event_line front ≡ []

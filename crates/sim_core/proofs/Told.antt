@@ -1,7 +1,8 @@
 -- What an auditor is told, line by line.
-use Rattle.std.proofs.Common.{arith, ◌≡◌, ◌≢◌, ◌+◌, ℕ, zero, suc, List, [], ◌∷◌, ◌++◌, take, append-nil, append_assoc, sym, ap, subst, ◌∙◌}
-use Rattle.std.specs.Prelude.{Some, slice_get}
-use Rattle.std.proofs.lemmas.Option.{none-some, slice_get_within}
+use Rattle.std.proofs.Common.{arith, ◌≡◌, ◌≢◌, ◌+◌, ℕ, List, [], ◌∷◌, ◌++◌, take, append-nil, append_assoc, sym, ap, subst, ◌∙◌}
+use Rattle.std.specs.Prelude.{Some, option_map, slice_get}
+use Rattle.std.proofs.lemmas.List.{take_more}
+use Rattle.std.proofs.lemmas.Option.{get_or_from_slice_get, slice_get-map, slice_get_within}
 use Rattle.cluster_types.specs.declared.run.RunLine.{RunLine}
 use Rattle.input_reading.specs.declared.run.text.RunTextLine.{RunTextLine}
 use Rattle.sim_core.specs.declared.auditor.Auditor.{Auditor}
@@ -11,15 +12,11 @@ use Rattle.sim_core.specs.Inner.AuditorLaws.{passes_then, stops_later}
 use Rattle.sim_core.specs.LawfulRuns.{clause_of, said}
 
 take_next : {X : Type 0} (xs : List X) (i : ℕ) (x : X) → slice_get xs i ≡ Some x → take (i + 1) xs ≡ take i xs ++ x ∷ []
-take_next [] i x e = absurd (none-some x e)
-take_next (y ∷ xs) zero x e = let same : y ≡ x = cc in ap (λ z. z ∷ []) same
-take_next (y ∷ xs) (suc i) x e = let n : suc i + 1 ≡ suc (i + 1) = omega arith in rw n (ap (λ zs. y ∷ zs) (take_next xs i x e))
+take_next xs i x e = take_more xs i x (slice_get_within xs i x e) ∙ ap (λ y. take i xs ++ y ∷ []) (get_or_from_slice_get xs i x x e)
 
 -- what stands at a place of the written lines, the line there says
 pub said_at : (lines : List RunTextLine) (i : ℕ) (l : RunTextLine) → slice_get lines i ≡ Some l → slice_get (said lines) i ≡ Some l.what
-said_at [] i l e = absurd (none-some l e)
-said_at (x ∷ lines) zero l e = let same : x ≡ l = cc in ap (λ (y : RunTextLine). Some y.what) same
-said_at (x ∷ lines) (suc i) l e = said_at lines i l e
+said_at lines i l e = slice_get-map (λ (y : RunTextLine). y.what) lines i ∙ ap (option_map (λ (y : RunTextLine). y.what)) e
 
 module _ (old new : Auditor) (line : RunLine) (cluster : audited_cluster new ≡ audited_cluster old) (lines : new.lines.now ≡ old.lines.now) where
   -- the next line is told

@@ -1,9 +1,9 @@
 -- The sections of a text with a trace in the place of its results.
 use Rattle.std.proofs.Common.{arith, ◌≡◌, ◌⊎◌, inl, inr, ◌<◌, ◌≤◌, ◌+◌, ◌-◌, ◌==◌, ◌&&◌, ◌||◌, not, min, ℕ, Bool, true, false, if◌then◌else◌, List, [], ◌∷◌, ◌++◌, length, length-append, take, drop, codes, append_assoc, append-nil, refl, sym, ap, subst, ◌∙◌}
-use Rattle.std.specs.Prelude.{Some, None, slice_range}
+use Rattle.std.specs.Prelude.{Option, Some, None, slice_range}
+use Rattle.std.specs.Option.{option_or}
 use Rattle.std.specs.List.{list_any, position_or_len}
-use Rattle.std.proofs.lemmas.Bool.{or_parts}
-use Rattle.std.proofs.lemmas.Bool.{cases_lt}
+use Rattle.std.proofs.lemmas.Bool.{cases_lt, or_parts}
 use Rattle.std.proofs.Math.Seq.{drop-append_seam, take-append_seam, take-length}
 use Rattle.std.proofs.lemmas.List.{drop-append-le, length-drop}
 use Rattle.crm_lex.specs.declared.line.Line.{Line}
@@ -80,41 +80,32 @@ no_trace before (line ∷ lines) placed = by (trace_line line) refl placed (no_t
         rest false e = e
 
 module _ (last : List ℕ) where
-  -- some lines, and others behind them, are in their places
-  pub misplaced_joined : (before xs ys : List Line) → misplaced last before xs ≡ None → misplaced last (before ++ xs) ys ≡ None → misplaced last before (xs ++ ys) ≡ None
-  misplaced_joined before [] ys e f = subst (λ (ls : List Line). misplaced last ls ys ≡ None) (append-nil before) f
-  misplaced_joined before (x ∷ xs) ys e f =
-      by (is_mark x && not (is_in_place last before x)) e
-      (λ g. misplaced_joined (before ++ x ∷ []) xs ys g (subst (λ (ls : List Line). misplaced last ls ys ≡ None) (sym (append_assoc before (x ∷ []) xs)) f))
+  -- of some lines and others behind them, the first that is out of its place is that of the first, or else that of the others
+  misplaced_append : (before xs ys : List Line) → misplaced last before (xs ++ ys) ≡ option_or (misplaced last before xs) (misplaced last (before ++ xs) ys)
+  misplaced_append before [] ys = ap (λ (ls : List Line). misplaced last ls ys) (sym (append-nil before))
+  misplaced_append before (x ∷ xs) ys =
+      by (is_mark x && not (is_in_place last before x))
+      (misplaced_append (before ++ x ∷ []) xs ys
+      ∙ ap (λ (ls : List Line). option_or (misplaced last (before ++ x ∷ []) xs) (misplaced last ls ys)) (append_assoc before (x ∷ []) xs))
     where
-      by : (c : Bool) → (if c then Some x.line else misplaced last (before ++ x ∷ []) xs) ≡ None
-          → (misplaced last (before ++ x ∷ []) xs ≡ None → misplaced last (before ++ x ∷ []) (xs ++ ys) ≡ None)
-          → (if c then Some x.line else misplaced last (before ++ x ∷ []) (xs ++ ys)) ≡ None
-      by true e later = absurd (let f : ⊥ = cc in f)
-      by false e later = later e
+      by : (c : Bool) → misplaced last (before ++ x ∷ []) (xs ++ ys) ≡ option_or (misplaced last (before ++ x ∷ []) xs) (misplaced last (before ++ x ∷ xs) ys)
+          → (if c then Some x.line else misplaced last (before ++ x ∷ []) (xs ++ ys))
+          ≡ option_or (if c then Some x.line else misplaced last (before ++ x ∷ []) xs) (misplaced last (before ++ x ∷ xs) ys)
+      by true e = refl
+      by false e = e
+
+  pub misplaced_joined : (before xs ys : List Line) → misplaced last before xs ≡ None → misplaced last (before ++ xs) ys ≡ None → misplaced last before (xs ++ ys) ≡ None
+  misplaced_joined before xs ys e f = misplaced_append before xs ys ∙ (ap (λ (z : Option ℕ). option_or z (misplaced last (before ++ xs) ys)) e ∙ f)
+
+  pub misplaced_first : (before xs ys : List Line) (line : ℕ) → misplaced last before xs ≡ Some line → misplaced last before (xs ++ ys) ≡ Some line
+  misplaced_first before xs ys line e = misplaced_append before xs ys ∙ ap (λ (z : Option ℕ). option_or z (misplaced last (before ++ xs) ys)) e
 
   pub misplaced_parts : (before xs ys : List Line) → misplaced last before (xs ++ ys) ≡ None → (misplaced last before xs ≡ None) × (misplaced last (before ++ xs) ys ≡ None)
-  misplaced_parts before [] ys e = (refl, subst (λ (ls : List Line). misplaced last ls ys ≡ None) (sym (append-nil before)) e)
-  misplaced_parts before (x ∷ xs) ys e = by (is_mark x && not (is_in_place last before x)) e (misplaced_parts (before ++ x ∷ []) xs ys)
+  misplaced_parts before xs ys e = by (misplaced last before xs) (misplaced last (before ++ xs) ys) (sym (misplaced_append before xs ys) ∙ e)
     where
-      by : (c : Bool) → (if c then Some x.line else misplaced last (before ++ x ∷ []) (xs ++ ys)) ≡ None
-          → (misplaced last (before ++ x ∷ []) (xs ++ ys) ≡ None → (misplaced last (before ++ x ∷ []) xs ≡ None) × (misplaced last ((before ++ x ∷ []) ++ xs) ys ≡ None))
-          → ((if c then Some x.line else misplaced last (before ++ x ∷ []) xs) ≡ None) × (misplaced last (before ++ x ∷ xs) ys ≡ None)
-      by true e later = absurd (let f : ⊥ = cc in f)
-      by false e later =
-          let parts = later e in
-          (parts.0, subst (λ (ls : List Line). misplaced last ls ys ≡ None) (append_assoc before (x ∷ []) xs) parts.1)
-
-  -- the first that is out of its place is that of all lines
-  pub misplaced_first : (before xs ys : List Line) (line : ℕ) → misplaced last before xs ≡ Some line → misplaced last before (xs ++ ys) ≡ Some line
-  misplaced_first before [] ys line e = absurd (let f : ⊥ = cc in f)
-  misplaced_first before (x ∷ xs) ys line e = by (is_mark x && not (is_in_place last before x)) e (misplaced_first (before ++ x ∷ []) xs ys line)
-    where
-      by : (c : Bool) → (if c then Some x.line else misplaced last (before ++ x ∷ []) xs) ≡ Some line
-          → (misplaced last (before ++ x ∷ []) xs ≡ Some line → misplaced last (before ++ x ∷ []) (xs ++ ys) ≡ Some line)
-          → (if c then Some x.line else misplaced last (before ++ x ∷ []) (xs ++ ys)) ≡ Some line
-      by true e later = e
-      by false e later = later e
+      by : (x y : Option ℕ) → option_or x y ≡ None → (x ≡ None) × (y ≡ None)
+      by None y f = (refl, f)
+      by (Some line) y f = absurd (let g : ⊥ = cc in g)
 
 -- the first of some elements that passes, where others stand behind them
 module _ {X : Type 0} (p : X → Bool) where

@@ -1,11 +1,10 @@
 -- What is written by the word `audit` (rule of this project).
 use Rattle.std.specs.Prelude.{◌≡◌, ℕ, List, ◌++◌, codes, decimal}
-use Rattle.input_reading.specs.declared.input.cause.InputCause.{InputCause}
 use Rattle.input_reading.specs.declared.input.trace.Trace.{Trace}
-use Rattle.input_reading.specs.Causes.{refusal_text}
 use Rattle.input_reading.specs.Traces.{IsTraceRefused, ReadsTrace}
 use Rattle.sim_core.specs.declared.verdict.Clause.{Clause}
 use Rattle.sim_core.specs.declared.verdict.Clause.TheVariants as due
+use Rattle.sim_core.specs.Outputs.{IsRefusal}
 use Rattle.sim_core.specs.LawfulRuns.{IsFaultyLine, IsLawfulRun, said}
 use Rattle.sim_core.specs.declared.status.Status.{Status}
 use Rattle.sim_core.specs.declared.status.Status.TheVariants.{Done, NotLawful, Refused}
@@ -43,16 +42,9 @@ pub record IsUnlawfulTrace (input text : List ℕ) : Type 0 where
   pub fault : IsFaultyLine whole.head.cluster whole.head.journal whole.run.lines whole.after line clause
   pub printed : text ≡ unlawful_text line clause
 
--- the text names the fault of the input
-pub record IsTraceRefusal (input text : List ℕ) : Type 0 where
-  pub line : ℕ
-  pub why : InputCause
-  pub fault : IsTraceRefused input line why
-  pub printed : text ≡ refusal_text line why
-
 -- an input of this content gets this status and this text
 abbrev pub IsAuditOutput : List ℕ → Status → List ℕ → Type 0
 IsAuditOutput input Done text = IsLawfulTrace input text
 IsAuditOutput input NotLawful text = IsUnlawfulTrace input text
-IsAuditOutput input Refused text = IsTraceRefusal input text
+IsAuditOutput input Refused text = IsRefusal (IsTraceRefused input) text
 IsAuditOutput input _ text = ⊥

@@ -24,7 +24,8 @@ use Rattle.live_run.specs.Ends.{EndGets, IsDueEnd, run_lines_text}
 use Rattle.sim_core.specs.declared.status.Status.{Status}
 use Rattle.sim_core.specs.declared.status.Status.TheVariants.{Done, NoMemory, Usage, ReadFault, WriteFault, Refused, Unexpected, TooLarge, NotLawful}
 use Rattle.sim_core.specs.Answers.{IsWritten}
-use Rattle.sim_core.specs.Replay.{IsHeadRead, IsHeadRefusal, IsHeadTooLarge, coming_behind}
+use Rattle.sim_core.specs.Outputs.{IsRefusal}
+use Rattle.sim_core.specs.Replay.{IsHeadRead, IsHeadFault, IsHeadTooLarge, coming_behind}
 use Rattle.written_runs.specs.OverLines.{AreLinesSafe}
 
 -- for a journal there is one plan, and its targets obey the mandatory rules. That each decision is the best that those before it left is part of
@@ -89,7 +90,7 @@ IsTextOfOneSafeRun how input text = IsOfHead input (λ head coming. IsOneSafeRun
 abbrev pub IsSafeOutput : List ℕ → Status → List ℕ → Type 0
 IsSafeOutput input Done text = IsTextOfOneSafeRun end.Done input text
 IsSafeOutput input Unexpected text = IsTextOfOneSafeRun end.Unexpected input text
-IsSafeOutput input Refused text = IsHeadRefusal input text ⊎ IsTextOfOneSafeRun end.Refused input text
+IsSafeOutput input Refused text = IsRefusal (IsHeadFault input) text ⊎ IsTextOfOneSafeRun end.Refused input text
 IsSafeOutput input TooLarge text = IsHeadTooLarge input text ⊎ IsTextOfOneSafeRun end.TooLarge input text
 IsSafeOutput input _ text = ⊥
 
@@ -102,7 +103,7 @@ module _ (input : List ℕ) (before after : Option (List ℕ)) where
   -- behind them a part of what comes next was written; or, where the head has a fault, a part of the line that names it
   abbrev pub WritesPartOfSafeRun : Type 0
   WritesPartOfSafeRun =
-      ((text : List ℕ) × IsHeadRefusal input text × AddsPrefix text before after)
+      ((text : List ℕ) × IsRefusal (IsHeadFault input) text × AddsPrefix text before after)
       ⊎ IsOfHead input (λ head coming. (part : List ℕ) × HasWrittenFront head coming part before after)
 
   -- the promise of `replay`, for each status: the lines that it has written are those of the one run of the input, or a front of them, and that run is safe

@@ -7,11 +7,11 @@ use Rattle.sim_core.specs.declared.status.Status.TheVariants.{Done, Refused}
 use Rattle.input_reading.specs.Causes.{refusal_text}
 use Rattle.input_reading.specs.Reading.{IsTextRefused, ReadsInput}
 
--- the text names the fault of the input
-pub record IsRefusalText (input text : List ℕ) : Type 0 where
+-- the text names a line at which this is so, and the cause
+pub record IsRefusal (IsRefusedAt : ℕ → InputCause → Type 0) (text : List ℕ) : Type 0 where
   pub line : ℕ
   pub why : InputCause
-  pub fault : IsTextRefused input line why
+  pub fault : IsRefusedAt line why
   pub printed : text ≡ refusal_text line why
 
 -- the text is one that this says of what the input says
@@ -23,5 +23,5 @@ pub record IsTextOf (Says : Input → List ℕ → Type 0) (input text : List �
 -- with a word that says this of an input, an input of this content gets this status and this text
 abbrev pub IsOutput : (Input → List ℕ → Type 0) → List ℕ → Status → List ℕ → Type 0
 IsOutput Says input Done text = IsTextOf Says input text
-IsOutput Says input Refused text = IsRefusalText input text
+IsOutput Says input Refused text = IsRefusal (IsTextRefused input) text
 IsOutput Says input _ text = ⊥

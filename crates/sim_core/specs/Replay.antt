@@ -13,7 +13,7 @@ use Rattle.input_reading.specs.declared.input.cause.InputCause.{InputCause}
 use Rattle.input_reading.specs.declared.input.reading.Head.{Head}
 use Rattle.sim_core.specs.declared.status.Status.{Status}
 use Rattle.sim_core.specs.declared.status.Status.TheVariants.{Done, Refused, TooLarge, Unexpected}
-use Rattle.input_reading.specs.Causes.{refusal_text}
+use Rattle.sim_core.specs.Outputs.{IsRefusal}
 use Rattle.input_reading.specs.Reading.{longest_line, most_bytes, lone_head_of}
 
 -- the head of an input: its logical lines up to the one that begins the results, or all where none does
@@ -37,13 +37,6 @@ pub data IsHeadFault (input : List ℕ) : ℕ → InputCause → Type 0 where
   head_refused : (bytes : List ℕ) (next room line : ℕ) (why : InputCause) → head_in input ≡ heads.taken bytes next room → lone_head_of bytes ≡ Err (At line why)
       → IsHeadFault input line why
 
--- the text names the fault of the head
-pub record IsHeadRefusal (input text : List ℕ) : Type 0 where
-  pub line : ℕ
-  pub why : InputCause
-  pub fault : IsHeadFault input line why
-  pub printed : text ≡ refusal_text line why
-
 -- a line of the head goes past the limit of bytes, and nothing is written
 pub record IsHeadTooLarge (input text : List ℕ) : Type 0 where
   pub is : head_in input ≡ heads.too_large
@@ -62,6 +55,6 @@ pub record IsTextOfRun (Says : Cluster → Journal → Coming → List ℕ → T
 abbrev pub IsReplayOutput : List ℕ → Status → List ℕ → Type 0
 IsReplayOutput input Done text = IsTextOfRun IsWholeText input text
 IsReplayOutput input Unexpected text = IsTextOfRun IsCutText input text
-IsReplayOutput input Refused text = IsHeadRefusal input text ⊎ IsTextOfRun IsRefusedText input text
+IsReplayOutput input Refused text = IsRefusal (IsHeadFault input) text ⊎ IsTextOfRun IsRefusedText input text
 IsReplayOutput input TooLarge text = IsHeadTooLarge input text ⊎ IsTextOfRun IsBoundedText input text
 IsReplayOutput input _ text = ⊥

@@ -12,7 +12,7 @@ use crate::status::Status;
 use crate::text_word::refusal_text;
 use crate::{Clause, Verdict, audit};
 use faults::NoMemory;
-use input_reading::{Head, InputFault, Trace, read_trace};
+use input_reading::{InputFault, Trace, read_trace};
 use std::alloc::Global;
 use trace_text::push_number;
 
@@ -50,12 +50,8 @@ fn verdict_of(alloc: Global, trace: Trace) -> Result<Verdict, NoMemory>
     ensures { IfOk result (Judges trace.head.cluster trace.head.journal trace.run.lines trace.after) }
 {
     let Trace { head, run, after } = trace;
-    let Head {
-        crm: _,
-        cluster,
-        journal,
-    } = head;
-    audit(alloc, &cluster, journal, &run, after)
+    let journal = head.journal;
+    audit(alloc, &head.cluster, journal, &run, after)
 }
 
 /// The word `audit`.

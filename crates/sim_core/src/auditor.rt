@@ -28,16 +28,6 @@ pub(crate) struct Auditor<'a> {
     ghost limits: { KeepsLimits cluster.now },
 }
 
-/// The number of the line at a place; behind the last line, `after`.
-fn number_at(lines: &[RunTextLine], place: usize, after: u32) -> u32
-    ensures { result ≡ line_number_at lines.now place after }
-{
-    match lines.get(place) {
-        Some(line) => line.line,
-        None => after,
-    }
-}
-
 impl<'a> Auditor<'a> {
     ghost use Rattle.sim_core.specs.Inner.Auditors.{PassesLines, StopsAtLine, audited_cluster, audited_lines};
 
@@ -108,10 +98,13 @@ impl<'a> Auditor<'a> {
     }
 
     /// The number of the first line that wasn't told; behind the last line, `after`.
-    pub(crate) fn number(&self, after: u32) -> u32
+    fn number(&self, after: u32) -> u32
         ensures { result ≡ line_number_at self.now.lines.now self.now.place after }
     {
-        number_at(self.lines, self.place, after)
+        match self.lines.get(self.place) {
+            Some(line) => line.line,
+            None => after,
+        }
     }
 
     /// What is found where the run has no more lines, but an answer would do.

@@ -52,7 +52,7 @@ pub(crate) struct CheckWord;
 impl TextWord for CheckWord {
     ghost says = { λ _. IsCheckText };
 
-    fn text(&self, alloc: Global, input: &Input) -> Result<Vec<u8>, NoMemory> {
-        check_text(alloc, input)
+    fn text(&self, alloc: Global, input: Input) -> Result<Vec<u8>, NoMemory> {
+        check_text(alloc, &input)
     }
 }

@@ -10,21 +10,20 @@ ghost use Rattle.cluster_types.specs.Valid.{IsValid};
 ghost use Rattle.graph_exec.specs.KeptRuns.{IsPassedOfPlan};
 ghost use Rattle.input_reading.specs.Results.{most_results};
 ghost use Rattle.sim_core.specs.Answers.{MayAnswer, SaysOf};
-ghost use Rattle.sim_core.specs.Inner.Outcomes.{IsOutcome};
 ghost use Rattle.sim_core.specs.GenSummary.{IsRunOf, IsSummaryOf, IsSummaryText, answers_of};
 ghost use Rattle.sim_core.specs.Outputs.{IsOutput};
-ghost use Rattle.input_reading.specs.Reading.{most_bytes};
 ghost use Rattle.sim_core.specs.Commands.{nothing};
 
+use crate::input_word::InputWord;
 use crate::status::Status;
 use crate::summary::summary_text;
-use crate::text_word::refusal_text;
+use crate::text_word::{Reading, TextWord};
 use cases::generate;
 use cluster_io::{Sink, write_text};
 use cluster_types::{Answer, Cluster, Journal, Run};
 use faults::NoMemory;
 use graph_exec::{ReplayStop, Script, replay};
-use input_reading::{Head, Input, InputFault, ResultLine, read_input};
+use input_reading::{Input, ResultLine};
 use run_safety::enough_transitions_are_allowed;
 use std::alloc::{AllocError, Global};
 
@@ -81,35 +80,17 @@ fn summary_by(
     summary_text(alloc, cluster, number, &run)
 }
 
-/// The summary of the run of the case of this number, which says this.
-fn summary_of(alloc: Global, number: u32, whole: Input) -> Result<Vec<u8>, NoMemory>
-    requires valid { IsValid whole.head.cluster }
-    requires at_rest { IsAtRest whole.head.journal.events }
-    requires moment { moment_of whole.head.journal.events < 2 ^ 40 }
-    requires few { length whole.results ≤ most_results }
-    ensures { IfOk result (λ text. IsSummaryText number whole text.items) }
-{
-    let Input { head, results } = whole;
-    let Head {
-        crm: _,
-        cluster,
-        journal,
-    } = head;
-    summary_by(alloc, number, &cluster, journal, results.as_slice())
-}
+/// The word `gen`, over the case of a number.
+#[derive(Drop)]
+struct GenWord(u32);
 
-/// The status and the text that the case of this number gets.
-fn answer(alloc: Global, number: u32, case: Vec<u8>) -> Result<(Status, Vec<u8>), NoMemory>
-    requires { length case.items ≤ most_bytes }
-    ensures output { IfOk result (λ answer. IsOutput (IsSummaryText number) case.items answer.0 answer.1.items) }
-    ensures status { IfOk result (λ answer. IsOutcome answer.0) }
-{
-    match read_input(alloc, case) {
-        Ok(whole) => Ok((Status::Done, summary_of(alloc, number, whole)?)),
-        Err(InputFault::At { line, cause }) => {
-            Ok((Status::Refused, refusal_text(alloc, line, cause)?))
-        }
-        Err(InputFault::NoMemory) => Err(NoMemory),
+impl TextWord for GenWord {
+    ghost says = { λ word. IsSummaryText word.0 };
+
+    fn text(&self, alloc: Global, input: Input) -> Result<Vec<u8>, NoMemory> {
+        let Input { head, results } = input;
+        let journal = head.journal;
+        summary_by(alloc, self.0, &head.cluster, journal, results.as_slice())
     }
 }
 
@@ -123,7 +104,8 @@ pub(crate) fn with_case<W: Sink>(alloc: Global, number: u32, out: &mut W) -> Sta
     let Ok(case) = generate(alloc, number) else {
         return Status::NoMemory;
     };
-    let Ok((status, text)) = answer(alloc, number, case) else {
+    let word = Reading(GenWord(number));
+    let Ok((status, text)) = word.answer(alloc, case) else {
         return Status::NoMemory;
     };
     match write_text(out, &text) {

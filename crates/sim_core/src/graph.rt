@@ -27,7 +27,7 @@ pub(crate) struct GraphWord;
 impl TextWord for GraphWord {
     ghost says = { λ _. IsGraphText };
 
-    fn text(&self, alloc: Global, input: &Input) -> Result<Vec<u8>, NoMemory> {
+    fn text(&self, alloc: Global, input: Input) -> Result<Vec<u8>, NoMemory> {
         let head = &input.head;
         let plan = plan(alloc, &head.cluster, &head.journal)?;
         Ok(text_of(alloc, &head.cluster, plan)?)

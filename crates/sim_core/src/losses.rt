@@ -16,7 +16,7 @@ pub(crate) struct SurviveWord;
 impl TextWord for SurviveWord {
     ghost says = { λ _. IsSurviveText };
 
-    fn text(&self, alloc: Global, input: &Input) -> Result<Vec<u8>, NoMemory> {
+    fn text(&self, alloc: Global, input: Input) -> Result<Vec<u8>, NoMemory> {
         let head = &input.head;
         let report = survive(alloc, &head.cluster, &head.journal)?;
         Ok(survive_text(alloc, &head.cluster, &report)?)

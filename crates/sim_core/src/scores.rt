@@ -33,7 +33,7 @@ pub(crate) struct ScoresWord;
 impl TextWord for ScoresWord {
     ghost says = { λ _. IsScoresText };
 
-    fn text(&self, alloc: Global, input: &Input) -> Result<Vec<u8>, NoMemory> {
+    fn text(&self, alloc: Global, input: Input) -> Result<Vec<u8>, NoMemory> {
         let placed = placed(alloc, &input.head)?;
         score_text(alloc, &input.head.cluster, &placed)
     }

@@ -1,11 +1,13 @@
 //! What the words share that say something of each input that is read.
 
-ghost use Rattle.std.specs.Prelude.{◌≡◌, ◌<◌, ◌^◌, ℕ, List, IfOk};
+ghost use Rattle.std.specs.Prelude.{◌≡◌, ◌≤◌, ◌<◌, ◌^◌, ℕ, List, IfOk, length};
 ghost use Rattle.cluster_types.specs.Journals.{moment_of};
+ghost use Rattle.cluster_types.specs.Safety.{IsAtRest};
 ghost use Rattle.cluster_types.specs.Valid.{IsValid};
 ghost use Rattle.input_reading.specs.declared.input.cause.InputCause.{InputCause as CauseOf};
 ghost use Rattle.input_reading.specs.declared.input.reading.Input.{Input as InputOf};
 ghost use Rattle.input_reading.specs.Causes.{refusal_text};
+ghost use Rattle.input_reading.specs.Results.{most_results};
 ghost use Rattle.sim_core.specs.Outputs.{IsOutput};
 
 use crate::input_word::InputWord;
@@ -21,10 +23,12 @@ pub(crate) trait TextWord {
     ghost says: { Self → InputOf → List ℕ → Type 0 };
 
     /// The text that an input gets. The only error is out of memory.
-    fn text(&self, alloc: Global, input: &Input) -> Result<Vec<u8>, NoMemory>
-        requires valid { IsValid input.now.head.cluster }
-        requires moment { moment_of input.now.head.journal.events < 2 ^ 40 }
-        ensures { IfOk result (λ text. says self.now input.now text.items) };
+    fn text(&self, alloc: Global, input: Input) -> Result<Vec<u8>, NoMemory>
+        requires valid { IsValid input.head.cluster }
+        requires at_rest { IsAtRest input.head.journal.events }
+        requires moment { moment_of input.head.journal.events < 2 ^ 40 }
+        requires few { length input.results ≤ most_results }
+        ensures { IfOk result (λ text. says self.now input text.items) };
 }
 
 /// `refused LINE CAUSE`.
@@ -39,15 +43,6 @@ pub(crate) fn refusal_text(alloc: Global, line: u32, cause: InputCause) -> Resul
     Ok(text)
 }
 
-/// The text that a word says of an input that was read.
-fn text_of<T: TextWord>(word: &T, alloc: Global, whole: Input) -> Result<Vec<u8>, NoMemory>
-    requires valid { IsValid whole.head.cluster }
-    requires moment { moment_of whole.head.journal.events < 2 ^ 40 }
-    ensures { IfOk result (λ text. T.says word.now whole text.items) }
-{
-    word.text(alloc, &whole)
-}
-
 /// The word over inputs as they are: one that can't be read is refused.
 #[derive(Drop)]
 pub(crate) struct Reading<T>(pub T);
@@ -57,7 +52,7 @@ impl<T: TextWord> InputWord for Reading<T> {
 
     fn answer(&self, alloc: Global, input: Vec<u8>) -> Result<(Status, Vec<u8>), NoMemory> {
         match read_input(alloc, input) {
-            Ok(whole) => Ok((Status::Done, text_of(&self.0, alloc, whole)?)),
+            Ok(whole) => Ok((Status::Done, self.0.text(alloc, whole)?)),
             Err(InputFault::At { line, cause }) => {
                 Ok((Status::Refused, refusal_text(alloc, line, cause)?))
             }

@@ -9,7 +9,6 @@ ghost use Rattle.sim_core.specs.Words.{command_of};
 
 use crate::audit_word::AuditWord;
 use crate::check::CheckWord;
-use crate::faulty_runs_are_not_lawful;
 use crate::gen_summary::with_case;
 use crate::graph::GraphWord;
 use crate::help::{HELP, VERSION};
@@ -24,7 +23,6 @@ use crate::why::WhyWord;
 use crate::words::{Command, command_of};
 use crate::world::WorldWord;
 use cluster_io::{Sink, Source};
-use live_run::ends_are_unique;
 use std::alloc::Global;
 
 /// Carries out a word. The clauses are those of `run` for the words that ask for it.
@@ -52,7 +50,7 @@ fn carry_out<S: Source, W: Sink>(alloc: Global, word: Command, src: &mut S, out:
         Command::Audit => with_input(alloc, &AuditWord, src, out),
         Command::Replay => replay(alloc, src, out),
         Command::Gen(number) => with_case(alloc, number, out),
-        Command::World(number) => with_input(alloc, &WorldWord(number), src, out),
+        Command::World(number) => with_input(alloc, &Reading(WorldWord(number)), src, out),
         Command::Help => tell(out, HELP),
         Command::Version => tell(out, VERSION),
     }
@@ -95,8 +93,6 @@ pub fn run<S: Source, W: Sink>(alloc: Global, words: &[String], src: &mut S, out
     ensures reads { Bears S.counts_only_failures (result ≡ Status.ReadFault) (S.faults src.old) (S.faults src.new) }
     ensures writes { Bears W.counts_only_failures (result ≡ Status.WriteFault) (W.faults out.old) (W.faults out.new) }
 {
-    ends_are_unique();
-    faulty_runs_are_not_lawful();
     match command_of(words) {
         Some(word) => carry_out(alloc, word, src, out),
         None => Status::Usage,

@@ -34,7 +34,7 @@ pub(crate) struct WhyWord;
 impl TextWord for WhyWord {
     ghost says = { λ _. IsWhyOf };
 
-    fn text(&self, alloc: Global, input: &Input) -> Result<Vec<u8>, NoMemory> {
-        account(alloc, input)
+    fn text(&self, alloc: Global, input: Input) -> Result<Vec<u8>, NoMemory> {
+        account(alloc, &input)
     }
 }

@@ -7,7 +7,6 @@ mod numbers;
 
 // Which actions of a graph come before one.
 mod found_positions;
-mod sources;
 mod walk;
 
 // The lines of each text.

@@ -8,7 +8,7 @@ ghost use Rattle.cluster_types.specs.Valid.{KeepsLimits};
 use crate::line_text::LineText;
 use crate::names::{put_leaf, put_leaf_on};
 use crate::target_walk::push_targets;
-use cluster_types::{Cluster, Decided, Decision, LeafId, Placed};
+use cluster_types::{Cluster, Decision, LeafId, Placed};
 use faults::NoMemory;
 use score::Score;
 use std::alloc::Global;
@@ -63,19 +63,6 @@ fn push_totals(
     Ok(())
 }
 
-/// A decision, and its total on each node.
-fn push_decided(text: &mut Vec<u8>, cluster: &Cluster, decided: &Decided) -> Result<(), NoMemory>
-    ensures { OnOk result (text.new.items ≡ text.old.items ++ texts.decided_lines cluster.now decided.now) }
-{
-    push_decision(text, cluster, decided.decision)?;
-    push_totals(
-        text,
-        cluster,
-        decided.decision.leaf(),
-        decided.totals.as_slice(),
-    )
-}
-
 /// The text of scores: each decision in the order in which it was made with its total on each node, and then the target lines (rule of
 /// this project). It asks for a cluster within the limits. `NoMemory` comes when memory runs out.
 pub fn score_text(alloc: Global, cluster: &Cluster, placed: &Placed) -> Result<Vec<u8>, NoMemory>
@@ -84,7 +71,13 @@ pub fn score_text(alloc: Global, cluster: &Cluster, placed: &Placed) -> Result<V
 {
     let mut text = Vec::new(alloc);
     for made in placed.decided.as_slice() {
-        push_decided(&mut text, cluster, made)?;
+        push_decision(&mut text, cluster, made.decision)?;
+        push_totals(
+            &mut text,
+            cluster,
+            made.decision.leaf(),
+            made.totals.as_slice(),
+        )?;
     }
     push_targets(
         &mut text,

@@ -1,13 +1,35 @@
-ghost use Rattle.std.specs.Prelude.{◌≡◌, ◌<◌, ◌≤◌, [], drop, length, slice_get, IfOk};
-ghost use Rattle.trace_text.specs.Inner.Walk.{befores};
+ghost use Rattle.std.specs.Prelude.{◌≡◌, ◌<◌, ◌≤◌, [], drop, length, map, slice_get, IfOk};
+ghost use Rattle.edges.specs.Loops.{EndsWithin};
+ghost use Rattle.trace_text.specs.Inner.Walk.{befores, source_rows, turned_edge};
 
 use crate::found_positions::walk_back;
-use crate::sources::source_rows;
-use cluster_types::{Graph, NoMemory};
+use cluster_types::{Edge, Edges, Graph, NoMemory};
 use edges::Rows;
 use listed::NumberSet;
-use std::alloc::Global;
+use std::alloc::{AllocError, Global};
 use std::marker::Model;
+
+/// The edges turned round.
+fn turned(alloc: Global, edges: &[Edge]) -> Result<Vec<Edge>, AllocError>
+    ensures { IfOk result (λ turned. turned.items ≡ map turned_edge edges.now) }
+{
+    edges
+        .iter()
+        .map(|edge| Edge {
+            before: edge.after,
+            after: edge.before,
+        })
+        .collect(alloc)
+}
+
+/// From where the edges lead to each position.
+fn source_rows(alloc: Global, edges: &Edges) -> Result<Rows, AllocError>
+    requires { EndsWithin edges.now.positions edges.now.list }
+    ensures { IfOk result (λ rows. rows ≡ source_rows edges.now) }
+{
+    let turned = turned(alloc, edges.list.as_slice())?;
+    Rows::new(alloc, edges.positions, &turned)
+}
 
 /// Tells which actions of a graph come before one of them, directly or through gates alone.
 ///

@@ -35,13 +35,7 @@ told_apart c es later (line.Begin k a ∷ lines) more told =
     let apart = told_apart c (es ++ Begin k a ∷ []) later lines more told in record { middle = apart.middle; first = apart.first; then = apart.then }
 told_apart c es later (line.Taken given ∷ lines) more (f, is, told) =
     let apart = told_apart c (es ++ added_by c es f given) later lines more told in record { middle = apart.middle; first = (f, is, apart.first); then = apart.then }
-told_apart c es later (line.Transition k ∷ lines) more told = let apart = told_apart c es later lines more told in record { middle = apart.middle; first = apart.first; then = apart.then }
-told_apart c es later (line.Pinned r pin ∷ lines) more told = let apart = told_apart c es later lines more told in record { middle = apart.middle; first = apart.first; then = apart.then }
-told_apart c es later (line.Goal r n goal ∷ lines) more told = let apart = told_apart c es later lines more told in record { middle = apart.middle; first = apart.first; then = apart.then }
-told_apart c es later (line.Lacking r reason ∷ lines) more told = let apart = told_apart c es later lines more told in record { middle = apart.middle; first = apart.first; then = apart.then }
-told_apart c es later (line.Complete k ∷ lines) more told = let apart = told_apart c es later lines more told in record { middle = apart.middle; first = apart.first; then = apart.then }
-told_apart c es later (line.Aborted k ∷ lines) more told = let apart = told_apart c es later lines more told in record { middle = apart.middle; first = apart.first; then = apart.then }
-told_apart c es later (line.Unexpected l ∷ lines) more told = let apart = told_apart c es later lines more told in record { middle = apart.middle; first = apart.first; then = apart.then }
+told_apart c es later (_ ∷ lines) more told = let apart = told_apart c es later lines more told in record { middle = apart.middle; first = apart.first; then = apart.then }
 
 -- a front of two lists that are joined ends in the one, or goes on into the other
 split_front : {R : Type 0} (xs ys before after : List RunLine) → xs ++ ys ≡ before ++ after

@@ -14,7 +14,7 @@ use Rattle.cluster_types.specs.declared.journal.Event.TheVariants.{Begin}
 use Rattle.cluster_types.specs.declared.journal.Outcome.TheVariants.{Code}
 use Rattle.cluster_types.specs.AnswersThatApply.{end_event, is_number_of}
 use Rattle.cluster_types.specs.Journals.{ends_number}
-use Rattle.cluster_types.specs.Steps.{Transition, Begins, EndsSilently, HasEnded, IsWaiting, StepsOn, begins, takes, is_silent, Applies, action_at, answer_events, begins_number, ended, has_aborted, has_begun, has_number_ended, in_flight_by_number, is_number_in_flight, journal, may_begin, numbers, numbers_in_flight, count_from_outside, idling, silent_code}
+use Rattle.cluster_types.specs.Steps.{Transition, Begins, EndsSilently, HasEnded, IsWaiting, begins, begins_number, ended, has_aborted, has_begun, has_number_ended, in_flight_by_number, is_number_in_flight, journal, may_begin, numbers, numbers_in_flight, silent_code}
 use Rattle.cluster_types.specs.Steps as steps
 use Rattle.cluster_types.proofs.StepLaws.{begins_nothing, not_begun}
 use Rattle.run_safety.proofs.ByNumber.{action_of, numbered_is}

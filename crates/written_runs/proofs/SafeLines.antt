@@ -5,7 +5,7 @@ use Rattle.std.proofs.lemmas.Bool.{eq-eqb}
 use Rattle.std.proofs.lemmas.Option.{IfSome_then}
 use Rattle.cluster_types.specs.declared.cluster.Cluster.{Cluster}
 use Rattle.cluster_types.specs.declared.journal.Action.{Action}
-use Rattle.cluster_types.specs.declared.journal.Action.TheVariants.{Fence, Probe, Operation, MigrateTo, MigrateFrom}
+use Rattle.cluster_types.specs.declared.journal.Action.TheVariants.{MigrateTo, MigrateFrom}
 use Rattle.cluster_types.specs.declared.journal.Answer.{Answer}
 use Rattle.cluster_types.specs.declared.journal.Answer.TheVariants as answer
 use Rattle.cluster_types.specs.declared.journal.Event.{Event}
@@ -116,11 +116,9 @@ begun_alone k j a b (x ∷ y ∷ front) after e f = absurd (let g : ⊥ = cc in 
 
 -- what is so of a migration by the events of its transition is so by the journal
 alone_by_journal : (t : Transition) (first before : List Event) (a : Action) → MigratesAlone t before a → HasItsLeafAlone t.cluster first a (journal t before)
-alone_by_journal t first before (Fence n) h = tt
-alone_by_journal t first before (Probe r n) h = tt
-alone_by_journal t first before (Operation o r n interval role) h = tt
 alone_by_journal t first before (MigrateTo r source to) h = h
 alone_by_journal t first before (MigrateFrom r source to) h = h
+alone_by_journal t first before _ h = tt
 
 module _ (c : Cluster) (promotions : List Promotion) (whole : Bool) (first : List Event) (rest : Option (List Answer)) (at_first : in_flight_by_begin first ≡ [])
     (safe : IsSafeRun c promotions whole first rest) where

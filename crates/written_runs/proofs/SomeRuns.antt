@@ -15,7 +15,7 @@ use Rattle.cluster_types.specs.AnswersThatApply.{applies_after}
 use Rattle.cluster_types.specs.Plans.{IsPlan, transition_of}
 use Rattle.cluster_types.specs.Runs.{RunStanding, due, amid, idle, RunsOn, plans, goes, completes, aborts, answers, Runs, here, one_more, IsAsking, IsCutAt, IsOver, journal_at}
 use Rattle.cluster_types.specs.Sources.{told, used_up}
-use Rattle.cluster_types.specs.Steps.{Transition, Begins, EndsSilently, HasEnded, IsWaiting, StepsOn, begins, takes, is_silent, Applies, action_at, answer_events, begins_number, ended, has_aborted, has_begun, has_number_ended, in_flight_by_number, is_number_in_flight, journal, may_begin, numbers, numbers_in_flight, count_from_outside, idling, silent_code}
+use Rattle.cluster_types.specs.Steps.{Transition, HasEnded, IsWaiting, StepsOn, begins, takes, is_silent, answer_events, ended, has_aborted, in_flight_by_number, journal, count_from_outside, idling, silent_code}
 use Rattle.cluster_types.specs.Steps as steps
 use Rattle.cluster_types.specs.Tables.{targets_of}
 use Rattle.cluster_types.specs.Texts.{event_lines, target_lines}

@@ -5,12 +5,12 @@ use Rattle.std.proofs.lemmas.Bool.{eq-eqb, ltb-true}
 use Rattle.lemmas.proofs.Booleans.{later, sooner}
 use Rattle.lemmas.proofs.Members.{all_first}
 use Rattle.cluster_types.specs.declared.journal.Action.{Action}
-use Rattle.cluster_types.specs.declared.journal.Action.TheVariants.{Fence, Probe, Operation, MigrateTo, MigrateFrom}
+use Rattle.cluster_types.specs.declared.journal.Action.TheVariants.{Operation}
 use Rattle.cluster_types.specs.declared.journal.Answer.{Answer}
 use Rattle.cluster_types.specs.declared.journal.Answer.TheVariants as answer
 use Rattle.cluster_types.specs.declared.journal.Event.{Event}
 use Rattle.cluster_types.specs.declared.journal.Outcome.TheVariants.{Code}
-use Rattle.cluster_types.specs.declared.leaf.Op.TheVariants.{Start, Stop, Promote, Demote, Monitor}
+use Rattle.cluster_types.specs.declared.leaf.Op.TheVariants.{Monitor}
 use Rattle.cluster_types.specs.declared.leaf.Role.TheVariants as role
 use Rattle.cluster_types.specs.declared.run.RunLine.{RunLine}
 use Rattle.cluster_types.specs.declared.run.RunLine.TheVariants as line
@@ -63,16 +63,8 @@ first_three false b d e f g i j h = cc
 
 -- a silent end has the code of a byte
 silent_low : (a : Action) → silent_code a < 256
-silent_low (Fence n) = omega arith
-silent_low (Probe r n) = omega arith
-silent_low (Operation Start r n interval role) = omega arith
-silent_low (Operation Stop r n interval role) = omega arith
-silent_low (Operation Promote r n interval role) = omega arith
-silent_low (Operation Demote r n interval role) = omega arith
-silent_low (Operation Monitor r n interval role.Started) = omega arith
 silent_low (Operation Monitor r n interval role.Promoted) = omega arith
-silent_low (MigrateTo r source to) = omega arith
-silent_low (MigrateFrom r source to) = omega arith
+silent_low _ = omega arith
 
 in_actions : (actions : List Action) (k : ℕ) (a : Action) → numbered actions k ≡ Some a → Contains actions a
 in_actions actions k a h = by (k == 0) h

@@ -1,9 +1,7 @@
 -- What some lines tell is one journal; and those of a run tell the journal that it has where it stands.
-use Rattle.std.proofs.Common.{arith, ◌≡◌, ◌<◌, ℕ, Bool, true, Option, Some, None, List, [], ◌∷◌, ◌++◌, length, slice_get, append-nil, append_assoc, refl, sym, ap, ◌∙◌, subst}
-use Rattle.std.specs.Prelude.{unwrap_or}
-use Rattle.std.specs.List.{AllByRecursion, flat_map, range_with_len}
+use Rattle.std.proofs.Common.{arith, ◌≡◌, ◌<◌, ℕ, Bool, true, Option, None, List, [], ◌∷◌, ◌++◌, length, append-nil, append_assoc, refl, sym, ap, ◌∙◌, subst}
+use Rattle.std.specs.List.{AllByRecursion, flat_map}
 use Rattle.std.proofs.lemmas.Bool.{eq-eqb}
-use Rattle.lemmas.proofs.Members.{all_append}
 use Rattle.lemmas.proofs.Ordered.{same_list}
 use Rattle.cluster_types.specs.declared.cluster.Cluster.{Cluster}
 use Rattle.cluster_types.specs.declared.journal.Action.{Action}
@@ -14,18 +12,17 @@ use Rattle.cluster_types.specs.declared.journal.Event.TheVariants.{Begin}
 use Rattle.cluster_types.specs.declared.placement.NoReason.{NoReason}
 use Rattle.cluster_types.specs.declared.placement.Pin.{Pin}
 use Rattle.cluster_types.specs.declared.placement.Target.{Target}
-use Rattle.cluster_types.specs.declared.placement.Target.TheVariants as target
 use Rattle.cluster_types.specs.declared.run.RunLine.{RunLine}
 use Rattle.cluster_types.specs.declared.run.RunLine.TheVariants as line
 use Rattle.cluster_types.specs.AnswersThatApply.{added_by, is_number_of}
 use Rattle.cluster_types.specs.Journals.{AreInFlightByNumber, in_flight_by_begin}
 use Rattle.cluster_types.specs.Steps.{Transition, Goes, StepsOn, here as none_yet, begins, takes, is_silent, answer_events, in_flight_by_number, journal, idling, silent_code}
-use Rattle.cluster_types.specs.Texts.{event_lines, goal_lines, lacking_lines, leaf_lines, pin_lines, target_lines}
+use Rattle.cluster_types.specs.Texts.{event_lines, leaf_lines, target_lines}
 use Rattle.run_safety.proofs.ByNumber.{by_number}
 use Rattle.run_safety.proofs.InFlight.{among_flying}
 use Rattle.run_safety.proofs.Printed.{answer_line, end_line}
 use Rattle.written_runs.specs.OverLines.{LinesTell}
-use Rattle.written_runs.proofs.Each.{all_in_range}
+use Rattle.written_runs.proofs.Each.{all_in_range, all_of_leaf}
 
 -- lines of a plan tell nothing that happened
 abbrev pub IsOfPlanning : RunLine → Type 0
@@ -46,66 +43,28 @@ module _ (c : Cluster) where
   tell_one es later other (line.Taken given ∷ lines) (f, is, one) (g, also, two) =
       tell_one (es ++ added_by c es f given) later other lines one
       (subst (λ z. LinesTell c (es ++ added_by c es z given) lines other) (sym (flight_one es f g is also)) two)
-  tell_one es later other (line.Transition k ∷ lines) one two = tell_one es later other lines one two
-  tell_one es later other (line.Pinned r pin ∷ lines) one two = tell_one es later other lines one two
-  tell_one es later other (line.Goal r n goal ∷ lines) one two = tell_one es later other lines one two
-  tell_one es later other (line.Lacking r reason ∷ lines) one two = tell_one es later other lines one two
-  tell_one es later other (line.Complete k ∷ lines) one two = tell_one es later other lines one two
-  tell_one es later other (line.Aborted k ∷ lines) one two = tell_one es later other lines one two
-  tell_one es later other (line.Unexpected l ∷ lines) one two = tell_one es later other lines one two
+  tell_one es later other (_ ∷ lines) one two = tell_one es later other lines one two
 
   -- more lines tell more
   pub tell_more : (es middle later : List Event) (lines more : List RunLine) → LinesTell c es lines middle → LinesTell c middle more later → LinesTell c es (lines ++ more) later
   tell_more es middle later [] more one two = subst (λ z. LinesTell c z more later) one two
   tell_more es middle later (line.Begin k a ∷ lines) more one two = tell_more (es ++ Begin k a ∷ []) middle later lines more one two
   tell_more es middle later (line.Taken given ∷ lines) more (f, is, one) two = (f, is, tell_more (es ++ added_by c es f given) middle later lines more one two)
-  tell_more es middle later (line.Transition k ∷ lines) more one two = tell_more es middle later lines more one two
-  tell_more es middle later (line.Pinned r pin ∷ lines) more one two = tell_more es middle later lines more one two
-  tell_more es middle later (line.Goal r n goal ∷ lines) more one two = tell_more es middle later lines more one two
-  tell_more es middle later (line.Lacking r reason ∷ lines) more one two = tell_more es middle later lines more one two
-  tell_more es middle later (line.Complete k ∷ lines) more one two = tell_more es middle later lines more one two
-  tell_more es middle later (line.Aborted k ∷ lines) more one two = tell_more es middle later lines more one two
-  tell_more es middle later (line.Unexpected l ∷ lines) more one two = tell_more es middle later lines more one two
+  tell_more es middle later (_ ∷ lines) more one two = tell_more es middle later lines more one two
 
   pub nothing_told : (es : List Event) (lines : List RunLine) → AllByRecursion IsOfPlanning lines → LinesTell c es lines es
   nothing_told es [] h = refl
   nothing_told es (line.Begin k a ∷ lines) h = absurd h.0
   nothing_told es (line.Taken given ∷ lines) h = absurd h.0
-  nothing_told es (line.Transition k ∷ lines) h = nothing_told es lines h.1
-  nothing_told es (line.Pinned r pin ∷ lines) h = nothing_told es lines h.1
-  nothing_told es (line.Goal r n goal ∷ lines) h = nothing_told es lines h.1
-  nothing_told es (line.Lacking r reason ∷ lines) h = nothing_told es lines h.1
-  nothing_told es (line.Complete k ∷ lines) h = nothing_told es lines h.1
-  nothing_told es (line.Aborted k ∷ lines) h = nothing_told es lines h.1
-  nothing_told es (line.Unexpected l ∷ lines) h = nothing_told es lines h.1
-
-  plan_pin : (r : ℕ) (pin : Option Pin) → AllByRecursion IsOfPlanning (pin_lines c r pin)
-  plan_pin r None = tt
-  plan_pin r (Some pin) = (tt, tt)
-
-  plan_goal : (r n : ℕ) (goal : Target) → AllByRecursion IsOfPlanning (goal_lines c r n goal)
-  plan_goal r n target.Nowhere = tt
-  plan_goal r n target.Started = (tt, tt)
-  plan_goal r n target.Promoted = (tt, tt)
-
-  plan_lacking : (r : ℕ) (reason : Option NoReason) → AllByRecursion IsOfPlanning (lacking_lines c r reason)
-  plan_lacking r None = tt
-  plan_lacking r (Some reason) = (tt, tt)
-
-  plan_leaf : (pins : List (Option Pin)) (targets : ℕ → ℕ → Target) (reasons : List (Option NoReason)) (r : ℕ)
-      → AllByRecursion IsOfPlanning (leaf_lines c pins targets reasons r)
-  plan_leaf pins targets reasons r =
-      let pinned = pin_lines c r (unwrap_or (slice_get pins r) None) in
-      let placed = flat_map (λ n. goal_lines c r n (targets r n)) (range_with_len 0 (length c.nodes)) in
-      let lacking = lacking_lines c r (unwrap_or (slice_get reasons r) None) in
-      all_append IsOfPlanning (pinned ++ placed) lacking
-      (all_append IsOfPlanning pinned placed (plan_pin r (unwrap_or (slice_get pins r) None))
-      (all_in_range IsOfPlanning (λ n. goal_lines c r n (targets r n)) 0 (length c.nodes) (λ n low high. plan_goal r n (targets r n))))
-      (plan_lacking r (unwrap_or (slice_get reasons r) None))
+  nothing_told es (_ ∷ lines) h = nothing_told es lines h.1
 
   pub plan_lines : (pins : List (Option Pin)) (targets : ℕ → ℕ → Target) (reasons : List (Option NoReason)) (k : ℕ)
       → AllByRecursion IsOfPlanning (line.Transition k ∷ target_lines c pins targets reasons)
-  plan_lines pins targets reasons k = (tt, all_in_range IsOfPlanning (leaf_lines c pins targets reasons) 0 (length c.leaves) (λ r low high. plan_leaf pins targets reasons r))
+  plan_lines pins targets reasons k = (
+    tt,
+    all_in_range IsOfPlanning (leaf_lines c pins targets reasons) 0 (length c.leaves)
+        (λ r low high. all_of_leaf IsOfPlanning c pins targets reasons r (λ pin. tt) (λ n less goal somewhere. tt) (λ reason e. tt)),
+  )
 
 -- what a transition does is told, where it began with nothing in flight
 module _ (t : Transition) (idle : in_flight_by_begin t.planned_at ≡ []) (whole : Bool) (since : List Event) (goes : Goes t whole [] None since None) where

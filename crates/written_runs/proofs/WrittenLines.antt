@@ -53,10 +53,7 @@ module _ (c : Cluster) (valid : IsValid c) (intervals : IntervalsFit c) (promoti
 
   grows : (at next : RunStanding) (rest left : Option (List Answer)) (lines : List RunLine) → RunsOn c promotions whole at rest lines next left → transition_number_at at ≤ transition_number_at next
   grows _ _ rest _ _ (plans k es _ placed actions plan) = omega arith
-  grows _ _ rest left _ (goes k t since events _ _ step) = omega arith
-  grows _ _ rest _ _ (completes k t since _ ended unaborted) = omega arith
-  grows _ _ rest _ _ (aborts k t since _ ended aborted) = omega arith
-  grows _ _ rest left _ (answers k es _ _ given said applies) = omega arith
+  grows _ _ _ _ _ _ = omega arith
 
   grow : (at later : RunStanding) (rest left : Option (List Answer)) (lines : List RunLine) → Runs c promotions whole at rest lines later left → transition_number_at at ≤ transition_number_at later
   grow at _ rest _ _ (here _ _) = omega arith

@@ -1,5 +1,5 @@
 -- A run that is kept, transition by transition. No public clause cites this module (rule of this project).
-use Rattle.std.specs.Prelude.{◌≡◌, ◌+◌, Bool, true, false, Option, Some, None, Result, Ok, Err, List, length}
+use Rattle.std.specs.Prelude.{◌≡◌, ◌+◌, ◌++◌, Bool, true, false, Option, Some, None, Result, Ok, Err, List, [], length}
 use Rattle.std.specs.List.{AllByRecursion}
 use Rattle.cluster_types.specs.declared.journal.Answer.{Answer}
 use Rattle.cluster_types.specs.declared.journal.Event.{Event}
@@ -10,13 +10,12 @@ use Rattle.cluster_types.specs.declared.run.PassedEnd.TheVariants as passed_as
 use Rattle.cluster_types.specs.declared.run.Run.{Run}
 use Rattle.cluster_types.specs.Runs.{RunStanding, due, Runs, IsAsking, IsCutAt, IsOver, journal_at}
 use Rattle.cluster_types.specs.Sources.{Says}
+use Rattle.cluster_types.specs.Steps.{Applies, answer_events, idling}
 use Rattle.cluster_types.specs.Texts.{all_passed_lines}
 use Rattle.graph_exec.specs.declared.transition.ends.End.{End}
 use Rattle.graph_exec.specs.declared.transition.ends.End.TheVariants as end
 use Rattle.graph_exec.specs.LastWords.{LastWord, none_failed}
 use Rattle.graph_exec.specs.KnownJournals.{KnownJournalOf}
-use Rattle.graph_exec.specs.IdleClusters.{IsRefusedIdle, TookIdle}
-use Rattle.graph_exec.specs.declared.run.idling.Taken.{Taken}
 use Rattle.graph_exec.specs.declared.run.stop.ReplayStop.{ReplayStop}
 use Rattle.graph_exec.specs.declared.run.stop.ReplayStop.TheVariants as stop
 use Rattle.graph_exec.specs.KeptRuns.{IsPassedOfPlan, kept_word}
@@ -52,12 +51,22 @@ abbrev pub keeping_word : {T : Type 0} → Result T (Result Journal (ReplayStop 
 keeping_word (Ok later) = none_failed
 keeping_word (Err end) = kept_word end
 
+-- the answer applies while nothing is to be done, and what it adds is in the journal
+pub record TookIdle (old new : KnownJournalOf) (given : Answer) : Type 0 where
+  pub applies : Applies (idling old.cluster old.events) [] given
+  pub goes_on : new ≡ record { cluster = old.cluster; events = old.events ++ answer_events (idling old.cluster old.events) [] given; promotions = old.promotions }
+
+-- the answer doesn't apply while nothing is to be done, and the journal is the same
+pub record IsRefusedIdle (old new : KnownJournalOf) (given : Answer) : Type 0 where
+  pub refused : ¬ Applies (idling old.cluster old.events) [] given
+  pub same : new ≡ old
+
 -- what comes of a question while nothing is to be done
 module _ (whole : Bool) (j : KnownJournalOf) (rest left : Option (List Answer)) where
   -- an answer that applies came, and is entered
-  pub record IsAnswered (taken : Taken) : Type 0 where
-    pub said : Says whole rest (Some taken.answer) left
-    pub took : TookIdle j taken.journal taken.answer
+  pub record IsAnswered (given : Answer) (next : KnownJournalOf) : Type 0 where
+    pub said : Says whole rest (Some given) left
+    pub took : TookIdle j next given
 
   pub record IsSilent (journal : Journal) : Type 0 where
     pub said : Says whole rest None left

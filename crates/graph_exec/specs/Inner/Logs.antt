@@ -6,7 +6,6 @@ use Rattle.cluster_types.specs.declared.journal.Promotion.{Promotion}
 use Rattle.cluster_types.specs.Journals.{moment_of}
 use Rattle.cluster_types.specs.Steps.{aborts, is_from_outside}
 use Rattle.state_unpack.specs.Known.{Knowledge, Knows}
-use Rattle.graph_exec.specs.KnownJournals.{KnownJournalOf}
 
 -- the journal when the transition was planned, the events since, and how many more there is room for
 pub record LogOf : Type 0 where
@@ -35,10 +34,6 @@ logged log event = record {
   promotions = log.promotions;
   room = log.room - 1;
 }
-
--- a journal, as it is kept
-abbrev pub log_journal : Cluster → List Event → List Promotion → KnownJournalOf
-log_journal c events promotions = record { cluster = c; events = events; promotions = promotions }
 
 -- what is known of the cluster is what the events tell of it, and their moment has 64 bits
 pub record IsLogTold (c : Cluster) (events : List Event) (known : Knowledge) : Type 0 where

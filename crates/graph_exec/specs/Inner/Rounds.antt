@@ -10,8 +10,11 @@ use Rattle.cluster_types.specs.Steps.{Applies, IsWaiting, StepsOn, answer_events
 use Rattle.cluster_types.specs.Texts.{event_lines}
 use Rattle.graph_exec.specs.declared.transition.ends.WatchedEnd.{WatchedEnd}
 use Rattle.graph_exec.specs.declared.transition.ends.WatchedEnd.TheVariants as how
+use Rattle.graph_exec.specs.declared.transition.watcher.Heard.{Heard}
+use Rattle.graph_exec.specs.declared.transition.watcher.Heard.TheVariants as says
 use Rattle.graph_exec.specs.LastWords.{LastWord, none_failed, transition_word}
 use Rattle.graph_exec.specs.Executors.{ExecutorOf, BeginsNow, IsAnswerRefused, Went, transition_in, later}
+use Rattle.graph_exec.specs.WatchedTransitions.{heard_at}
 
 -- how many actions may begin yet, how many may end, and how often an answer may be taken
 abbrev pub begins_left : ExecutorOf → ℕ
@@ -63,6 +66,11 @@ asked_word (Err end) = transition_word end
 abbrev pub round_word : Option WatchedEnd → LastWord
 round_word None = none_failed
 round_word (Some end) = transition_word end
+
+-- what the watcher said at last
+abbrev pub heard_in : Option WatchedEnd → Heard
+heard_in (Some end) = heard_at end
+heard_in None = says.Go
 
 -- why no answer was taken
 abbrev pub StopsAs : Bool → ExecutorOf → ExecutorOf → Option (List Answer) → Option (List Answer) → WatchedEnd → Type 0

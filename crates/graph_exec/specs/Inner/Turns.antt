@@ -1,25 +1,24 @@
 -- One transition of a replay, and what comes right after it. No public clause cites this module (rule of this project).
-use Rattle.std.specs.Prelude.{◌≡◌, ◌≤◌, ◌⊎◌, ℕ, ◌+◌, Bool, true, false, Option, Some, None, Result, Ok, Err, List, [], ◌++◌}
+use Rattle.std.specs.Prelude.{◌≡◌, ◌≤◌, ◌⊎◌, ℕ, ◌+◌, Bool, true, false, Option, Some, None, Result, Ok, Err, List, ◌++◌}
 use Rattle.cluster_types.specs.declared.cluster.Cluster.{Cluster}
 use Rattle.cluster_types.specs.declared.journal.Answer.{Answer}
 use Rattle.cluster_types.specs.declared.journal.Event.{Event}
 use Rattle.cluster_types.specs.declared.journal.Journal.{Journal}
 use Rattle.cluster_types.specs.declared.journal.Promotion.{Promotion}
 use Rattle.cluster_types.specs.declared.placement.Placed.{Placed}
+use Rattle.cluster_types.specs.declared.plan.Plan.{Plan}
 use Rattle.cluster_types.specs.declared.run.RunLine.{RunLine}
 use Rattle.cluster_types.specs.declared.states.States.{States}
 use Rattle.cluster_types.specs.Runs.{RunStanding, due, idle, Runs, RunsOn, IsAsking, IsBetween, IsCutAt, IsOver, journal_at}
-use Rattle.cluster_types.specs.Graphs.{GraphOf}
 use Rattle.cluster_types.specs.Plans.{CarriesOut}
 use Rattle.cluster_types.specs.UnpackedStates.{states_of}
 use Rattle.run_safety.specs.TwoRuns.{transition_number_at}
 use Rattle.graph_exec.specs.LastWords.{LastWord, none_failed}
 use Rattle.graph_exec.specs.KnownJournals.{KnownJournalOf}
 use Rattle.graph_exec.specs.Promises.{IsGraphPlanned}
-use Rattle.graph_exec.specs.Executors.{ExecutorOf}
+use Rattle.graph_exec.specs.Executors.{ExecutorOf, fresh_on}
 use Rattle.graph_exec.specs.SourceDuties.{TakesAnswers}
 use Rattle.graph_exec.specs.WatcherLines.{ReasonsHaveNames, StopsAmong}
-use Rattle.graph_exec.specs.declared.run.planning.KeptPlan.{KeptPlan}
 use Rattle.graph_exec.specs.declared.run.planning.Planned.{Planned}
 use Rattle.graph_exec.specs.declared.run.stop.ReplayStop.{ReplayStop}
 use Rattle.graph_exec.specs.declared.run.stop.ReplayStop.TheVariants as stop
@@ -130,30 +129,20 @@ module _ (Follows : List RunLine → Type 0) (s : Setting) (from : RunStanding) 
   RunEndsAs Stopped (Err (stop.Most journal)) = ⊥
   RunEndsAs Stopped (Err stop.NoMemory) = RunEndsBetween
 
--- nothing of the graph has begun
-abbrev pub fresh_on : KnownJournalOf → GraphOf → ExecutorOf
-fresh_on j g = record { cluster = j.cluster; graph = g; planned_at = j.events; since = []; promotions = j.promotions }
-
 -- the transition that is planned for a journal, of which nothing has begun
 pub record IsReady (journal : KnownJournalOf) (p : Planned) : Type 0 where
-  pub fresh : p.executor ≡ record {
-    cluster = journal.cluster;
-    graph = p.executor.graph;
-    planned_at = journal.events;
-    since = [];
-    promotions = journal.promotions;
-  }
+  pub fresh : p.executor ≡ fresh_on journal p.executor.graph
   pub plan : IsGraphPlanned p.executor p.placed
   pub names : ReasonsHaveNames p.placed
 
 -- for each journal that tells the states that a plan was made for, its graph carries it out
-abbrev pub Serves : Cluster → KeptPlan → Type 0
+abbrev pub Serves : Cluster → Plan → Type 0
 Serves c plan =
     (es : List Event) (promotions : List Promotion) → plan.states ≡ states_of c es promotions → CarriesOut c es promotions plan.placed plan.graph
 
 -- a plan that is being carried out serves again
 abbrev pub ServesAgain : Cluster → States → Planned → Type 0
-ServesAgain c states p = Serves c (record { states = states; placed = p.placed; graph = p.executor.graph })
+ServesAgain c states p = Serves c (record { states = states; rights = p.rights; placed = p.placed; graph = p.executor.graph })
 
 -- its graph carries out a plan
 pub record HasPlannedGraph (r : ExecutorOf) : Type 0 where

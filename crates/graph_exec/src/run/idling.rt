@@ -11,34 +11,40 @@ ghost use Rattle.graph_exec.specs.WatcherLines.{view_between};
 ghost use Rattle.graph_exec.specs.Inner.Turns.{CameTo, RunEndsAs, part_heard, part_word};
 
 use crate::run::stop::{Ended, ReplayStop};
+use crate::transition::course::Course;
 use crate::transition::rounds::wait_for;
-use crate::{Heard, IdleCluster, KnownJournal, Next, Outcomes, Watcher};
-use cluster_types::Answer;
+use crate::{Heard, KnownJournal, Next, Outcomes, Watcher};
+use cluster_types::{Answer, Edges, Graph};
+use listed::Listed;
 use std::alloc::Global;
 
-/// An answer that came while nothing was to be done, and the journal with what it adds.
-#[derive(Drop)]
-pub(crate) struct Taken<'c> {
-    pub answer: Answer,
-    pub journal: KnownJournal<'c>,
+/// A graph without actions. It takes no memory.
+fn nothing_to_do(alloc: Global) -> Graph
+    ensures { result.actions ≡ [] }
+{
+    let edges = Edges {
+        positions: 0,
+        list: Listed::new(alloc),
+    };
+    Graph::new(Vec::new(alloc), edges)
 }
 
-/// Asks the source while nothing is to be done, and enters its answer; or says how the run ends here. All memory is taken
-/// before the source is asked. What that says is at hand, or this watcher holds nothing back.
+/// Asks the source while nothing is to be done. Gives its answer, and the journal with what that adds; or says how the run ends
+/// here. All memory is taken before the source is asked. What that says is at hand, or this watcher holds nothing back.
 pub(crate) fn ask_idle<'c, S: Outcomes, V: Watcher>(
     alloc: Global,
     journal: KnownJournal<'c>,
     outcomes: &mut S,
     watcher: &V,
-) -> Result<Taken<'c>, Ended>
+) -> Result<(Answer, KnownJournal<'c>), Ended>
     requires resting { in_flight_by_begin journal.events ≡ [] }
     requires in_time { S.at_hand outcomes.old ⊎ V.quiet watcher.now }
-    ensures answered { IfOk result (IsAnswered (S.whole outcomes.old) journal.entry (S.rest outcomes.old) (S.rest outcomes.new)) }
+    ensures answered { IfOk result (λ taken. IsAnswered (S.whole outcomes.old) journal.entry (S.rest outcomes.old) (S.rest outcomes.new) taken.0 taken.1) }
     ensures unanswered { IfErr result
         (IsUnanswered (S.whole outcomes.old) journal.entry (S.rest outcomes.old) (S.rest outcomes.new) (S.over outcomes.old)) }
 
     ensures agrees { S.agrees outcomes.old journal.entry.cluster journal.entry.events 0
-        → IfOk result (λ taken. S.agrees outcomes.new journal.entry.cluster taken.journal.events 0) }
+        → IfOk result (λ taken. S.agrees outcomes.new journal.entry.cluster taken.1.events 0) }
     ensures agrees_at_end { S.agrees outcomes.old journal.entry.cluster journal.entry.events 0
         → IfErr result (OfMade (AgreesWith (S.agrees outcomes.new) journal.entry.cluster)) }
     ensures fitting { S.careful outcomes.old ≡ true → S.agrees outcomes.old journal.entry.cluster journal.entry.events 0
@@ -48,20 +54,21 @@ pub(crate) fn ask_idle<'c, S: Outcomes, V: Watcher>(
     ensures answer { IfOk result (λ _. Rose (S.answered outcomes.old) (S.answered outcomes.new)) }
     ensures quiet { IfErr result (IsQuietInFault (S.broke outcomes.new) (V.quiet watcher.now)) }
 {
-    let Ok(resting) = IdleCluster::new(alloc, journal) else {
+    let Ok(mut course) = Course::new(alloc, journal, nothing_to_do(alloc)) else {
         return Err(Err(ReplayStop::NoMemory));
     };
-    match outcomes.next(resting.flight()) {
-        Next::Answer(answer) => match resting.take(answer) {
-            Ok(journal) => Ok(Taken { answer, journal }),
-            Err(back) => {
-                let journal = back.journal.into_journal();
-                Err(Err(ReplayStop::Unexpected(journal, back.answer)))
+    match outcomes.next(course.flight()) {
+        Next::Answer(answer) => {
+            if !course.applies(answer) {
+                let journal = course.into_known().into_journal();
+                return Err(Err(ReplayStop::Unexpected(journal, answer)));
             }
-        },
-        Next::Silent => Err(Ok(resting.into_known().into_journal())),
+            course.enter(answer);
+            Ok((answer, course.into_known()))
+        }
+        Next::Silent => Err(Ok(course.into_known().into_journal())),
         Next::Failed => {
-            let journal = resting.into_known().into_journal();
+            let journal = course.into_known().into_journal();
             Err(Err(ReplayStop::SourceFault(journal)))
         }
     }
@@ -110,9 +117,9 @@ pub(crate) fn take_idle<'c, S: Outcomes, V: Watcher>(
         return Err(Err(ReplayStop::Stopped(journal.into_journal())));
     }
     match ask_idle(alloc, journal, outcomes, watcher) {
-        Ok(taken) => match watcher.taken(taken.answer) {
-            Heard::Go => Ok(taken.journal),
-            Heard::Stop => Err(Err(ReplayStop::Stopped(taken.journal.into_journal()))),
+        Ok((answer, later)) => match watcher.taken(answer) {
+            Heard::Go => Ok(later),
+            Heard::Stop => Err(Err(ReplayStop::Stopped(later.into_journal()))),
         },
         Err(end) => Err(end),
     }

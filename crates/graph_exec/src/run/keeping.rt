@@ -1,6 +1,6 @@
 //! A transition of a run that is kept, and what comes right after it.
 
-ghost use Rattle.std.specs.Prelude.{◌≡◌, ◌≤◌, ◌+◌, ℕ, true, None, Option, List, [], ◌∷◌, ◌++◌, length, IfOk, IfErr, IfSome, OnOk, OnErr};
+ghost use Rattle.std.specs.Prelude.{◌≡◌, ◌≤◌, ◌+◌, ℕ, true, None, Option, List, [], ◌∷◌, ◌++◌, length, IfOk, IfErr, OnOk, OnErr};
 ghost use Rattle.cluster_types.specs.declared.journal.Answer.{Answer as AnswerOf};
 ghost use Rattle.cluster_types.specs.declared.journal.Event.{Event as EventOf};
 ghost use Rattle.cluster_types.specs.Safety.{IsAtRest};
@@ -10,7 +10,7 @@ ghost use Rattle.graph_exec.specs.LastWords.{SourceLasts};
 ghost use Rattle.graph_exec.specs.Replays.{AgreesWith, IsReplayExpected, OfMade, setting};
 
 use crate::run::idling::ask_idle;
-use crate::run::planning::plan_anew;
+use crate::run::planning::plan_next;
 use crate::run::stop::{Ended, ReplayStop};
 use crate::{End, KnownJournal, Outcomes, Unwatched, run_transition};
 use cluster_types::{NoMemory, Passed, PassedEnd, Placed};
@@ -26,32 +26,6 @@ fn passed_end(end: End) -> PassedEnd
         End::Aborted(_) => PassedEnd::Aborted,
         End::Unexpected(_) | End::SourceFault => PassedEnd::Cut,
     }
-}
-
-/// What is kept of a transition, with its events from a position of the journal up to another. None where the positions
-/// don't fit 32 bits.
-fn passed_of(placed: Placed, begins_at: usize, ends_at: usize, end: PassedEnd) -> Option<Passed>
-    requires { begins_at ≤ ends_at }
-    ensures { IfSome result (λ passed. passed ≡ record {
-      pins = placed.pins;
-      table = placed.table;
-      none = placed.none;
-      begins_at = begins_at;
-      ends_at = ends_at;
-      end = end;
-    }) }
-{
-    if ends_at >= 4_294_967_296 {
-        return None;
-    }
-    Some(Passed {
-        pins: placed.pins,
-        table: placed.table,
-        none: placed.none,
-        begins_at: begins_at as u32,
-        ends_at: ends_at as u32,
-        end,
-    })
 }
 
 /// Keeps a transition behind those before it. It fails where memory runs out, or where the positions don't fit 32 bits.
@@ -73,8 +47,16 @@ fn keep_behind(
     } ∷ []) }
     ensures err { OnErr result (passed.new ≡ passed.old) }
 {
-    let Some(kept) = passed_of(placed, begins_at, ends_at, end) else {
+    if ends_at >= 4_294_967_296 {
         return Err(NoMemory);
+    }
+    let kept = Passed {
+        pins: placed.pins,
+        table: placed.table,
+        none: placed.none,
+        begins_at: begins_at as u32,
+        ends_at: ends_at as u32,
+        end,
     };
     Ok(passed.push(kept)?)
 }
@@ -113,7 +95,7 @@ pub(crate) fn keep_transition<'c, S: Outcomes>(
     ensures source { SourceLasts S.Outcomes outcomes.old outcomes.new (keeping_word result) }
 {
     let begins_at = journal.count();
-    let Ok(planned) = plan_anew(alloc, journal) else {
+    let Ok((_, planned)) = plan_next(alloc, journal, None) else {
         return Err(Err(ReplayStop::NoMemory));
     };
     let mut executor = planned.executor;
@@ -125,7 +107,7 @@ pub(crate) fn keep_transition<'c, S: Outcomes>(
     };
     match end {
         End::Complete => match ask_idle(alloc, later, outcomes, &Unwatched) {
-            Ok(taken) => Ok(taken.journal),
+            Ok((_answer, next)) => Ok(next),
             Err(ended) => Err(ended),
         },
         End::Aborted(_) => Ok(later),

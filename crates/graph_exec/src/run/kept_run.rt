@@ -4,25 +4,41 @@ ghost use Rattle.std.specs.Prelude.{◌≡◌, ◌<◌, ◌^◌, true};
 ghost use Rattle.cluster_types.specs.Journals.{moment_of};
 ghost use Rattle.cluster_types.specs.Safety.{IsAtRest};
 ghost use Rattle.cluster_types.specs.Valid.{IsValid};
+ghost use Rattle.graph_exec.specs.Inner.KeptTransitions.{kept_end};
 ghost use Rattle.graph_exec.specs.KeptRuns.{KeepsAs, KeepsPlans, kept_word};
 ghost use Rattle.graph_exec.specs.LastWords.{SourceLasts};
 ghost use Rattle.graph_exec.specs.Replays.{AgreesWith, IsJournalKept, IsReplayExpected, OfMade};
 
 use crate::run::keeping::keep_transition;
-use crate::run::run_ending::kept;
-use crate::run::stop::ReplayStop;
+use crate::run::stop::{Ended, ReplayStop};
 use crate::{KnownJournal, Outcomes};
-use cluster_types::{Cluster, Journal, Run};
+use cluster_types::{Cluster, Journal, Passed, Run};
 use listed::Listed;
 use state_unpack::valid_clusters_have_few_monitors;
 use std::alloc::Global;
 
-/// Makes the run of a journal and keeps it: transition after transition, each with the plan for the journal so far, at most so
-/// many. After an aborted transition the next is due; after a complete one the source is asked while nothing is to be done,
-/// and an answer that applies then makes the next due. Where nothing more is said, the run is over.
+/// How a run ended, of which these transitions are kept.
+fn kept(passed: Listed<Passed>, end: Ended) -> Result<Run, ReplayStop<Run>>
+    ensures { result ≡ kept_end passed end }
+{
+    match end {
+        Ok(journal) => Ok(Run { passed, journal }),
+        Err(ReplayStop::Unexpected(journal, answer)) => {
+            Err(ReplayStop::Unexpected(Run { passed, journal }, answer))
+        }
+        Err(ReplayStop::SourceFault(journal)) => {
+            Err(ReplayStop::SourceFault(Run { passed, journal }))
+        }
+        Err(ReplayStop::Stopped(journal)) => Err(ReplayStop::Stopped(Run { passed, journal })),
+        Err(ReplayStop::Most(journal)) => Err(ReplayStop::Most(Run { passed, journal })),
+        Err(ReplayStop::NoMemory) => Err(ReplayStop::NoMemory),
+    }
+}
+
+/// Makes the run of a journal as [`crate::replay_watched`] does, with no watcher, and keeps it.
 ///
 /// Of each transition its targets and reasons are kept, with the positions of its events in the journal. `NoMemory` comes
-/// when memory runs out, or where the journal has 2^32 events or more, so that a position wouldn't fit. No watcher stops it.
+/// when memory runs out, or where the journal has 2^32 events or more, so that a position wouldn't fit.
 ///
 /// It asks for a valid cluster, for a journal in order with nothing in flight, as a status gives it, and for a moment in
 /// seconds that fits 64 bits.

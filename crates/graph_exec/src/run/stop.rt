@@ -1,6 +1,6 @@
 //! Why a run ends before all is done.
 
-use cluster_types::{Answer, Journal, Run};
+use cluster_types::{Answer, Journal};
 
 /// Why a run ended before all was done. Each but the last hands back what was made so far: its journal, or the run that is
 /// kept.
@@ -19,6 +19,3 @@ pub enum ReplayStop<T> {
 
 /// How a run ended: with all done, or before.
 pub(crate) type Ended = Result<Journal, ReplayStop<Journal>>;
-
-/// How a run ended that is kept.
-pub(crate) type KeptEnd = Result<Run, ReplayStop<Run>>;

@@ -13,18 +13,12 @@ ghost use Rattle.graph_exec.specs.Inner.Turns.{CameTo, RunEndsAs, Serves, left_o
 
 use crate::run::carrying_out::carry_out;
 use crate::run::idling::take_idle;
-use crate::run::planning::{KeptPlan, plan_next};
+use crate::run::planning::plan_next;
 use crate::run::stop::{Ended, ReplayStop};
 use crate::{Executor, Heard, KnownJournal, Outcomes, Watcher};
+use cluster_types::Plan;
 use faults::with;
 use std::alloc::Global;
-
-/// The journal for which the next transition is due, and the last plan.
-#[derive(Drop)]
-pub(crate) struct Turn<'c> {
-    pub journal: KnownJournal<'c>,
-    pub plan: KeptPlan,
-}
 
 /// The end of a run that the watcher stops at a plan. What would be kept of the plan is let go.
 fn stopped<P: Drop>(executor: Executor<'_>, _plan: P) -> Ended
@@ -34,15 +28,15 @@ fn stopped<P: Drop>(executor: Executor<'_>, _plan: P) -> Ended
 }
 
 /// Makes the transition of this number in the run: plans it, carries it out, and, where it is complete, takes the answer
-/// that comes then. Gives the journal for which the next is due, with the plan, or says how the run ends.
+/// that comes then. Gives the plan, with the journal for which the next is due, or says how the run ends.
 pub(crate) fn make_transition<'c, S: Outcomes, V: Watcher>(
     alloc: Global,
     journal: KnownJournal<'c>,
-    last: Option<KeptPlan>,
+    last: Option<Plan>,
     outcomes: &mut S,
     watcher: &mut V,
     number: u32,
-) -> Result<Turn<'c>, Ended>
+) -> Result<(Plan, KnownJournal<'c>), Ended>
     requires valid { IsValid journal.cluster }
     requires at_rest { IsAtRest journal.events }
     requires last { IfSome last (Serves journal.cluster) }
@@ -52,8 +46,8 @@ pub(crate) fn make_transition<'c, S: Outcomes, V: Watcher>(
         (due number journal.entry.events)
         (sight (S.rest outcomes.old) (S.over outcomes.old))
         (sight (S.rest outcomes.new) (S.over outcomes.new))
-        (due (number + 1)) turn.journal) }
-    ensures serves { IfOk result (λ turn. Serves journal.entry.cluster turn.plan) }
+        (due (number + 1)) turn.1) }
+    ensures serves { IfOk result (λ turn. Serves journal.entry.cluster turn.0) }
     ensures ends { IfErr result (RunEndsAs (V.follows watcher.old watcher.new)
         (setting journal.entry.cluster journal.entry.promotions (S.whole outcomes.old) (S.steady outcomes.old))
         (due number journal.entry.events)
@@ -62,7 +56,7 @@ pub(crate) fn make_transition<'c, S: Outcomes, V: Watcher>(
         number (V.stopped watcher.old watcher.new)) }
 
     ensures agrees { S.agrees outcomes.old journal.entry.cluster journal.entry.events 0
-        → IfOk result (λ turn. S.agrees outcomes.new journal.entry.cluster turn.journal.events 0) }
+        → IfOk result (λ turn. S.agrees outcomes.new journal.entry.cluster turn.1.events 0) }
     ensures agrees_at_end { S.agrees outcomes.old journal.entry.cluster journal.entry.events 0
         → IfErr result (OfMade (AgreesWith (S.agrees outcomes.new) journal.entry.cluster)) }
     ensures fitting { S.careful outcomes.old ≡ true → S.agrees outcomes.old journal.entry.cluster journal.entry.events 0 → IfErr result IsReplayExpected }
@@ -72,7 +66,7 @@ pub(crate) fn make_transition<'c, S: Outcomes, V: Watcher>(
     ensures watcher { WatcherLasts V.Watcher watcher.old watcher.new (part_heard result) }
     ensures quiet { IfErr result (IsQuietInFault (S.broke outcomes.new) (V.quiet watcher.new)) }
     ensures shown { V.shown watcher.old Heard.Go (view_between journal.entry.cluster journal.entry.promotions journal.entry.events)
-        → IfOk result (λ turn. V.shown watcher.new Heard.Go (view_between journal.entry.cluster journal.entry.promotions turn.journal.events)) }
+        → IfOk result (λ turn. V.shown watcher.new Heard.Go (view_between journal.entry.cluster journal.entry.promotions turn.1.events)) }
     ensures shown_at_end { V.shown watcher.old Heard.Go (view_between journal.entry.cluster journal.entry.promotions journal.entry.events)
         → IfErr result (IsShownEnd (V.shown watcher.new) journal.entry.cluster journal.entry.promotions) }
 {
@@ -83,25 +77,22 @@ pub(crate) fn make_transition<'c, S: Outcomes, V: Watcher>(
         return Err(stopped(planned.executor, (states, planned.placed)));
     }
     let carried = carry_out(planned.executor, outcomes, watcher, number);
-    let ((states, placed), closed) = match with((states, planned.placed), carried) {
+    let ((states, placed), (complete, parts)) = match with((states, planned.placed), carried) {
         Ok(both) => both,
         Err(ended) => return Err(ended),
     };
-    let plan = KeptPlan {
+    let plan = Plan {
         states,
+        rights: planned.rights,
         placed,
-        graph: closed.graph,
+        graph: parts.graph,
     };
-    if !closed.complete {
-        return Ok(Turn {
-            journal: closed.journal,
-            plan,
-        });
+    if !complete {
+        return Ok((plan, parts.journal));
     }
-    let taken = take_idle(alloc, closed.journal, outcomes, watcher, number);
-    let (plan, journal) = match with(plan, taken) {
-        Ok(both) => both,
-        Err(ended) => return Err(ended),
-    };
-    Ok(Turn { journal, plan })
+    let taken = take_idle(alloc, parts.journal, outcomes, watcher, number);
+    match with(plan, taken) {
+        Ok(turn) => Ok(turn),
+        Err(ended) => Err(ended),
+    }
 }

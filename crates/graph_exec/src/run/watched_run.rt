@@ -64,12 +64,12 @@ pub fn replay_watched<S: Outcomes, V: Watcher>(
     };
     let mut last = None;
     for made in 0..most {
-        let turn = match make_transition(alloc, known, last, outcomes, watcher, made + 1) {
+        let (plan, later) = match make_transition(alloc, known, last, outcomes, watcher, made + 1) {
             Ok(turn) => turn,
             Err(ended) => return ended,
         };
-        known = turn.journal;
-        last = Some(turn.plan);
+        known = later;
+        last = Some(plan);
     }
     Err(ReplayStop::Most(known.into_journal()))
 }

@@ -3,8 +3,7 @@
 ghost use Rattle.std.specs.Prelude.{◌≡◌, ◌<◌, ◌+◌, ◌^◌, ◌++◌, ◌&&◌, nat_lt, length};
 ghost use Rattle.cluster_types.specs.AnswersThatApply as answering;
 ghost use Rattle.cluster_types.specs.Journals as journals;
-ghost use Rattle.cluster_types.specs.May.{may_be_running};
-ghost use Rattle.cluster_types.specs.NodeStates.{is_online, node_state};
+ghost use Rattle.cluster_types.specs.NodeStates.{node_state};
 ghost use Rattle.cluster_types.specs.Steps.{in_flight_by_number, journal, count_from_outside};
 ghost use Rattle.graph_exec.specs.Executors.{transition_in};
 
@@ -76,30 +75,20 @@ impl<'c> Course<'c> {
         }
     }
 
-    /// Whether the cell is there, and the leaf may run on its node, which is online.
-    fn may_report(&self, leaf: LeafId, node: NodeId) -> bool
-        ensures { result ≡ (nat_lt node (length self.now.cluster.nodes) && nat_lt leaf (length self.now.cluster.leaves)
-            && is_online self.now.cluster node (journal (transition_in self.now) self.now.since) && may_be_running self.now.cluster leaf node (journal (transition_in self.now) self.now.since)) }
-    {
-        if !self.is_node(node) {
-            return false;
-        }
-        if leaf as usize >= self.log.cluster().leaves.len() {
-            return false;
-        }
-        let known = self.log.known();
-        matches!(known.node_state(node), NodeState::Online) && known.may(leaf, node)
-    }
-
-    /// Whether a failed monitor of the cell may be told: the leaf may run on the node, which is online, the code is
-    /// bad and not ignored, and nothing of the cell is in flight.
+    /// Whether a failed monitor of the cell may be told: the cell is there, its node is online, the leaf may run on it, the
+    /// code is bad and not ignored, and nothing of the cell is in flight.
     fn tells_failure(&self, node: NodeId, leaf: LeafId, interval_ms: u32, code: u8) -> bool
         ensures { result ≡ answering.tells_failure self.now.cluster (journal (transition_in self.now) self.now.since) (in_flight_by_number (transition_in self.now) self.now.since) node leaf interval_ms code }
     {
+        if !self.is_node(node) || leaf as usize >= self.log.cluster().leaves.len() {
+            return false;
+        }
+        let known = self.log.known();
         let action = self.monitor_action(leaf, node, interval_ms);
         let outcome = Outcome::Code(code);
         interval_ms > 0
-            && self.may_report(leaf, node)
+            && matches!(known.node_state(node), NodeState::Online)
+            && known.may(leaf, node)
             && is_bad(action, outcome)
             && !is_ignored(self.log.cluster(), action, outcome)
             && !self.flight().is_busy(leaf, node)

@@ -1,9 +1,9 @@
 //! What is kept of a transition that is carried out.
 
-ghost use Rattle.std.specs.Prelude.{◌≡◌, ◌<◌, ◌≤◌, ◌+◌, ◌++◌, [], true, false, IfOk, IfErr, IfSome, IfNone, find};
+ghost use Rattle.std.specs.Prelude.{◌≡◌, ◌<◌, ◌≤◌, ◌+◌, ◌++◌, true, false, IfOk, IfErr, IfSome, IfNone, find};
 ghost use Rattle.cluster_types.specs.Steps.{aborts, in_flight_by_number, has_begun, has_room};
 ghost use Rattle.graph_exec.specs.Flights.{pairs_in_flight};
-ghost use Rattle.graph_exec.specs.Executors.{BeginsNow, StaysSettled, transition_in};
+ghost use Rattle.graph_exec.specs.Executors.{BeginsNow, StaysSettled, fresh_on, transition_in};
 
 use crate::transition::flight::InFlight;
 use crate::transition::known_journal::KnownJournal;
@@ -12,9 +12,7 @@ use cluster_types::{Event, Graph};
 use std::alloc::Global;
 use std::marker::Model;
 
-/// A transition that goes on: its graph, the journal when it was planned, and the events since.
-///
-/// All memory is taken when it is made: two events of each action, and 256 answers from outside.
+/// What an executor keeps, whatever the events since the plan are. All memory is taken when it is made.
 #[derive(Drop)]
 pub(crate) struct Course<'c> {
     pub(crate) log: Log<'c>,
@@ -32,14 +30,7 @@ impl<'c> Model for Course<'c> {
     ghost invariant = { λ e. InFlightFollows e.log e.flight };
 }
 
-/// Out of memory. What was handed in is handed back as it was.
-#[derive(Drop)]
-pub struct NotBegun<'c> {
-    pub journal: KnownJournal<'c>,
-    pub graph: Graph,
-}
-
-/// What a transition leaves: the whole journal, with what it tells, and the graph that was carried out.
+/// What a transition is made of, and what it leaves: the journal, with what it tells, and the graph.
 #[derive(Drop)]
 pub struct Parts<'c> {
     pub journal: KnownJournal<'c>,
@@ -47,32 +38,26 @@ pub struct Parts<'c> {
 }
 
 impl<'c> Course<'c> {
-    /// Nothing has begun.
+    /// Nothing has begun. Out of memory, what was handed in is handed back as it was.
     pub fn new(
         alloc: Global,
         journal: KnownJournal<'c>,
         graph: Graph,
-    ) -> Result<Course<'c>, NotBegun<'c>>
-        ensures ok { IfOk result (λ e. e ≡ record {
-          cluster = journal.entry.cluster;
-          graph = graph;
-          planned_at = journal.entry.events;
-          since = [];
-          promotions = journal.entry.promotions;
-        }) }
+    ) -> Result<Course<'c>, Parts<'c>>
+        ensures ok { IfOk result (λ e. e ≡ fresh_on journal.entry graph) }
         ensures journal { IfErr result (λ back. back.journal ≡ journal.entry) }
         ensures graph { IfErr result (λ back. back.graph ≡ graph) }
     {
         let more = 2 * graph.count() as usize + 256;
         let log = match Log::new(journal, more) {
             Ok(log) => log,
-            Err(journal) => return Err(NotBegun { journal, graph }),
+            Err(journal) => return Err(Parts { journal, graph }),
         };
         match InFlight::new(alloc, graph) {
             Ok(flight) => Ok(Course { log, flight }),
             Err(graph) => {
                 let journal = log.into_known();
-                Err(NotBegun { journal, graph })
+                Err(Parts { journal, graph })
             }
         }
     }
@@ -101,8 +86,7 @@ impl<'c> Course<'c> {
         limit == 0 || self.flight.count() < limit
     }
 
-    /// Of the actions that may begin, the one of lowest number begins, and its number is given. Where none may, nothing
-    /// changes.
+    /// Of the actions that may begin, the one of lowest number begins, and its number is given.
     pub fn begin_next(&mut self) -> Option<u32>
         ensures begins { IfSome result (λ k. BeginsNow self.old self.new k) }
         ensures settled { IfNone result (StaysSettled self.old self.new) }

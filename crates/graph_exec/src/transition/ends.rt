@@ -17,17 +17,13 @@ pub enum End {
     SourceFault,
 }
 
-/// How a transition ended that was watched.
+/// How a transition ended that was watched: as [`End`] says, or stopped by the watcher.
 #[derive(Clone, Copy, Debug, PartialEq, Eq)]
 pub enum WatchedEnd {
-    /// Each action succeeded.
     Complete,
-    /// This event, the first that did, aborted it.
     Aborted(Event),
-    /// This answer came, and doesn't apply.
     Unexpected(Answer),
     SourceFault,
-    /// The watcher stopped it.
     Stopped,
 }
 

@@ -1,22 +1,22 @@
 //! A transition that is carried out.
 
-ghost use Rattle.std.specs.Prelude.{◌≡◌, ◌<◌, ◌+◌, ◌^◌, ◌++◌, [], true, IfOk, IfErr, OnOk, OnErr, IfSome, IfNone, find};
+ghost use Rattle.std.specs.Prelude.{◌≡◌, ◌<◌, ◌+◌, ◌^◌, ◌++◌, [], true, IfOk, IfErr, OnOk, OnErr, IfSome, IfNone};
 ghost use Rattle.cluster_types.specs.Journals.{moment_of};
-ghost use Rattle.cluster_types.specs.Steps.{HasEnded, IsWaiting, aborts, in_flight_by_number};
+ghost use Rattle.cluster_types.specs.Steps.{HasEnded, IsWaiting, in_flight_by_number};
 ghost use Rattle.cluster_types.specs.Valid.{KeepsLimits};
 ghost use Rattle.state_unpack.specs.Knowledge.{has_few_monitors};
 ghost use Rattle.graph_exec.specs.Flights.{pairs_in_flight};
 ghost use Rattle.graph_exec.specs.Promises.{KeepsPromises};
-ghost use Rattle.graph_exec.specs.Executors.{BeginsNow, IsAnswerRefused, StaysSettled, IsUnderWay, Took, transition_in};
+ghost use Rattle.graph_exec.specs.Executors.{BeginsNow, IsAnswerRefused, StaysSettled, IsUnderWay, Took, fresh_on, transition_in};
 ghost use Rattle.graph_exec.specs.Inner.ExecutorFields.{EndedSilently};
 ghost use Rattle.graph_exec.specs.Transitions.{EndsAs, EndedByItself};
 
-use crate::transition::course::{Course, NotBegun, Parts};
+use crate::transition::course::{Course, Parts};
 use crate::transition::ends::WatchedEnd;
 use crate::transition::flight::InFlight;
 use crate::transition::known_journal::KnownJournal;
 use crate::transition::taking::Unexpected;
-use cluster_types::{Answer, Cluster, Event, Graph, Journal};
+use cluster_types::{Answer, Cluster, Graph, Journal};
 use std::alloc::Global;
 use std::marker::Model;
 
@@ -75,19 +75,14 @@ impl<'c> Executor<'c> {
         }
     }
 
-    /// The same on a journal of which is known what it tells, so that it isn't read anew.
+    /// The same on a journal of which is known what it tells, so that it isn't read anew. Out of memory, what was handed in is
+    /// handed back as it was.
     pub fn on(
         alloc: Global,
         journal: KnownJournal<'c>,
         graph: Graph,
-    ) -> Result<Executor<'c>, NotBegun<'c>>
-        ensures ok { IfOk result (λ e. e ≡ record {
-          cluster = journal.entry.cluster;
-          graph = graph;
-          planned_at = journal.entry.events;
-          since = [];
-          promotions = journal.entry.promotions;
-        }) }
+    ) -> Result<Executor<'c>, Parts<'c>>
+        ensures ok { IfOk result (λ e. e ≡ fresh_on journal.entry graph) }
         ensures journal { IfErr result (λ back. back.journal ≡ journal.entry) }
         ensures graph { IfErr result (λ back. back.graph ≡ graph) }
     {
@@ -102,13 +97,6 @@ impl<'c> Executor<'c> {
         ensures promises { KeepsPromises self.now }
     {
         self.course.flight()
-    }
-
-    /// The first event that aborts the transition.
-    pub fn abort(&self) -> Option<Event>
-        ensures { result ≡ find (aborts self.now.cluster) self.now.since }
-    {
-        self.course.abort()
     }
 
     /// Of the actions that may begin, the one of lowest number begins, and its number is given. Where none may, nothing

@@ -24,11 +24,11 @@ pub struct KnownJournal<'c> {
 
 impl<'c> Model for KnownJournal<'c> {
     ghost use Rattle.graph_exec.specs.KnownJournals.{KnownJournalOf};
-    ghost use Rattle.graph_exec.specs.Inner.Logs.{IsLogTold, log_journal};
+    ghost use Rattle.graph_exec.specs.Inner.Logs.{IsLogTold};
 
     ghost Value = { KnownJournalOf };
 
-    ghost view = { λ j. log_journal j.cluster.now j.events.items j.promotions };
+    ghost view = { λ j. record { cluster = j.cluster.now; events = j.events.items; promotions = j.promotions } };
 
     ghost invariant = { λ j. IsLogTold j.cluster.now j.events.items j.known };
 }

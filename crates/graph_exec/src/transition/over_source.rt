@@ -56,8 +56,7 @@ pub fn run_watched<S: Outcomes, V: Watcher>(
     }
 }
 
-/// Carries the transition out to its end: all that may begin, begins before an answer is taken. After `Unexpected` or
-/// `SourceFault` the executor holds the steps so far, and a further call goes on from there. It takes no memory.
+/// Carries the transition out to its end as [`run_watched`] does, with no watcher.
 pub fn run_transition<S: Outcomes>(executor: &mut Executor<'_>, outcomes: &mut S) -> End
     ensures steps { WentByEnd (S.whole outcomes.old) executor.old executor.new (S.rest outcomes.old) (S.rest outcomes.new) (watched result) }
     ensures end { EndsAs executor.new (watched result) }

@@ -1,13 +1,12 @@
-ghost use Rattle.std.specs.Prelude.{◌≡◌, ◌<◌, ◌≤◌, ◌+◌, ◌-◌, ◌++◌, ◌∷◌, [], ℕ, true, false, IfOk, length, replicate, slice_index_or, slice_set, vec_len, vec_capacity};
+ghost use Rattle.std.specs.Prelude.{◌≡◌, ◌<◌, ◌≤◌, ◌+◌, ◌-◌, ◌==◌, ◌++◌, ◌∷◌, [], ℕ, true, false, IfOk, length, filter, replicate, slice_index_or, slice_set, vec_len, vec_capacity};
+ghost use Rattle.std.specs.List.{range_with_len};
 ghost use Rattle.cluster_types.specs.Graphs.{IsGraph};
 ghost use Rattle.edges.specs.Inner.Clearing.{less_one};
 ghost use Rattle.graph_exec.specs.Inner.ClearedPositions.{ClearsGates, gates_cleared_then, ready_then};
 ghost use Rattle.edges.specs.Rows.{edge_targets};
 
-use crate::transition::roots::first_free;
 use cluster_types::Graph;
 use edges::{Rows, Side, count_ends};
-use faults::with;
 use listed::{NumberSet, none_set};
 use std::alloc::{AllocError, Global};
 
@@ -26,13 +25,42 @@ pub struct Queue {
     pub ready: NumberSet,
 }
 
-/// Which actions have begun, and which have succeeded: none.
-fn none_yet(alloc: Global, actions: u32) -> Result<(Vec<bool>, Vec<bool>), AllocError>
-    ensures begun { IfOk result (λ none. none.0.items ≡ replicate actions false) }
-    ensures succeeded { IfOk result (λ none. none.1.items ≡ replicate actions false) }
+/// The gates to which no edge leads, in a list with room for all positions.
+fn free_gates(
+    alloc: Global,
+    positions: u32,
+    actions: u32,
+    counts: &[usize],
+) -> Result<Vec<u32>, AllocError>
+    requires size { length counts.now ≡ positions }
+    requires actions { actions ≤ positions }
+    ensures gates { IfOk result (λ gates. gates.items ≡ filter (λ x. slice_index_or counts.now x 0 == 0) (range_with_len actions (positions - actions))) }
+    ensures room { IfOk result (λ gates. positions ≤ vec_capacity gates) }
 {
-    let begun = none_set(alloc, actions)?;
-    with(begun, none_set(alloc, actions))
+    let mut gates = Vec::with_capacity(alloc, positions as usize)?;
+    for position in actions..positions {
+        if counts[position as usize] > 0 {
+            continue;
+        }
+        gates.push_reserved(position);
+    }
+    Ok(gates)
+}
+
+/// The actions to which no edge leads.
+fn free_actions(alloc: Global, actions: u32, counts: &[usize]) -> Result<NumberSet, AllocError>
+    requires { actions ≤ length counts.now }
+    ensures size { IfOk result (λ free. length free ≡ actions) }
+    ensures free { IfOk result (λ free. (x : ℕ) → x < actions → slice_index_or free x false ≡ (slice_index_or counts.now x 0 == 0)) }
+{
+    let mut free = NumberSet::new(alloc, actions)?;
+    for position in 0..actions {
+        if counts[position as usize] > 0 {
+            continue;
+        }
+        free.insert(position + 1);
+    }
+    Ok(free)
 }
 
 impl Queue {
@@ -46,10 +74,10 @@ impl Queue {
         let edges = graph.edges();
         let actions = graph.count();
         let left = count_ends(alloc, edges.positions, edges.list.as_slice(), Side::After)?;
-        let free = first_free(alloc, edges.positions, actions, &left);
-        let (left, (cleared, ready)) = with(left, free)?;
-        let none = none_yet(alloc, actions);
-        let ((left, cleared, ready), (begun, succeeded)) = with((left, cleared, ready), none)?;
+        let cleared = free_gates(alloc, edges.positions, actions, &left)?;
+        let ready = free_actions(alloc, actions, &left)?;
+        let begun = none_set(alloc, actions)?;
+        let succeeded = none_set(alloc, actions)?;
         Ok(Queue {
             left,
             cleared,

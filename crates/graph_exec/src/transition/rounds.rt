@@ -4,12 +4,11 @@ ghost use Rattle.std.specs.Prelude.{◌≡◌, ◌⊎◌, ◌<◌, ◌≤◌, �
 ghost use Rattle.cluster_types.specs.Steps.{IsWaiting, is_settled};
 ghost use Rattle.graph_exec.specs.Counts.{IsAbortAnswered};
 ghost use Rattle.graph_exec.specs.LastWords.{SourceLasts, WatcherLasts, none_failed};
-ghost use Rattle.graph_exec.specs.Inner.Rounds.{Advanced, Answered, StopsAs, asked_word, asks_left, begins_left, round_word};
+ghost use Rattle.graph_exec.specs.Inner.Rounds.{Advanced, Answered, StopsAs, asked_word, asks_left, begins_left, heard_in, round_word};
 ghost use Rattle.graph_exec.specs.Executors.{IsUnderWay, Went, transition_in};
 ghost use Rattle.graph_exec.specs.Transitions.{Accords, EndsAs, WentByEnd, EndedByItself, IsExpected, WentAsSaid};
 ghost use Rattle.graph_exec.specs.WatcherLines.{RunView};
 ghost use Rattle.graph_exec.specs.WatchedTransitions.{IsToldUpTo, IsQuietAt, IsShownAll};
-ghost use Rattle.graph_exec.specs.Inner.LastHeard.{heard_in};
 
 use crate::transition::ends::WatchedEnd;
 use crate::transition::executor::Executor;

@@ -2,10 +2,10 @@
 use Rattle.std.specs.Prelude.{◌≡◌, ℕ, Bool, true, false, Option, Some, None, List, option_map}
 use Rattle.cluster_types.specs.declared.cluster.Cluster.{Cluster}
 use Rattle.live_run.specs.LineSays.{is_last}
-use Rattle.live_run.specs.declared.line_result.Came.{Came}
-use Rattle.live_run.specs.declared.line_result.Came.TheVariants as came
-use Rattle.live_run.specs.declared.line_meaning.Said.{Said}
-use Rattle.live_run.specs.declared.line_meaning.Said.TheVariants as said
+use Rattle.live_run.specs.declared.result_reader.Came.{Came}
+use Rattle.live_run.specs.declared.result_reader.Came.TheVariants as came
+use Rattle.live_run.specs.declared.line_saying.Said.{Said}
+use Rattle.live_run.specs.declared.line_saying.Said.TheVariants as said
 use Rattle.live_run.specs.AnswersToCome.{Coming, no_more, result_first, LineReaderAt, coming_of}
 
 -- the same, where the source tells what it has left

@@ -9,8 +9,8 @@ use Rattle.live_run.specs.AnswersToCome.{Coming, LineReaderAt}
 use Rattle.live_run.specs.SourceFollowed.{AreNear, NoneOrLastSays, LastLineSays, HasRead, IsStoppedBy, StandWhole, bytes_of, count_said, results_first, said_by}
 use Rattle.run_safety.specs.TwoRuns.{IsFront}
 use Rattle.live_run.specs.Inner.ReadSteps.{HasPassed, ReadUntil}
-use Rattle.live_run.specs.declared.line_result.Came.{Came}
-use Rattle.live_run.specs.declared.line_result.Came.TheVariants as came
+use Rattle.live_run.specs.declared.result_reader.Came.{Came}
+use Rattle.live_run.specs.declared.result_reader.Came.TheVariants as came
 use Rattle.live_run.specs.declared.line_stop.LineStop.{LineStop}
 use Rattle.input_reading.specs.declared.results.result_lines.ResultLine.{ResultLine}
 

@@ -4,8 +4,8 @@ use Rattle.cluster_io.specs.NextLine.{holds_line, IsUndecided}
 use Rattle.cluster_types.specs.declared.cluster.Cluster.{Cluster}
 use Rattle.input_reading.specs.declared.results.result_lines.ResultLine.{ResultLine}
 use Rattle.live_run.specs.AnswersToCome.{LineReaderAt}
-use Rattle.live_run.specs.declared.line_result.Came.{Came}
-use Rattle.live_run.specs.declared.line_result.Came.TheVariants as came
+use Rattle.live_run.specs.declared.result_reader.Came.{Came}
+use Rattle.live_run.specs.declared.result_reader.Came.TheVariants as came
 use Rattle.live_run.specs.SourceFollowed.{LastLineSays, HasRead, AreNear, AllIsRead, IsStoppedBy}
 
 -- lines without words were passed over

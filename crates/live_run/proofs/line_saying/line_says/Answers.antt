@@ -1,7 +1,7 @@
 use Rattle.std.proofs.Common.{ap, sym, ◌∙◌}
 use Rattle.crm_lex.specs.Reading.{reads_line}
 use Rattle.live_run.specs.LineSays.{read_says}
-use Rattle.live_run.specs.declared.line_meaning.Said.TheVariants as said
+use Rattle.live_run.specs.declared.line_saying.Said.TheVariants as said
 use Rattle.live_run.proofs.WordsSaid.{words_read, words_refused}
 use Rattle.live_run.proofs.line_saying.line_says.Goals as goal
 

@@ -7,20 +7,22 @@ use Rattle.live_run.proofs.running.run_to_end.Goals as goal
 
 pub returns-in-Ok-clause-reaches : goal.returns-in-Ok-clause-reaches
 returns-in-Ok-clause-reaches g c =
-    done_from c.args.cluster.now c.args.journal (state_of c.args.outcomes.now).lines.reading (state_of c.args.outcomes.now)
+    rw c.end_as.ensures.end
+    (done_from c.args.cluster.now c.args.journal (state_of c.args.outcomes.now).lines.reading (state_of c.args.outcomes.now)
     (state_of c.replay_watched.new.outcomes) (writer_cluster c.args.writer.now) c.requires.fresh c.requires.names (g.S.Source.left (outcomes_source c.args.outcomes.now))
     (g.S.Source.left (outcomes_source c.replay_watched.new.outcomes)) (g.W.Sink.written (sink_of c.args.writer.now)) (g.W.Sink.written (sink_of c.replay_watched.new.watcher))
-    (g.W.Sink.written (sink_of c.end_of_whole.new.writer)) (writer_held c.replay_watched.new.watcher) (has_course_ended (state_of c.args.outcomes.now).course) (has_course_ended (state_of c.replay_watched.new.outcomes).course)
-    c.in-Ok.journal _ _ _ (λ lines told. rw c.requires.empty at told.text) c.in-Ok.ensures.run c.in-Ok.ensures.source.came.0.follows c.end_of_whole.result c.end_of_whole.ensures.text
+    (g.W.Sink.written (sink_of c.finish.new.self)) (writer_held c.replay_watched.new.watcher) (has_course_ended (state_of c.args.outcomes.now).course) (has_course_ended (state_of c.replay_watched.new.outcomes).course)
+    c.in-Ok.journal _ _ _ (λ lines told. rw c.requires.empty at told.text) c.in-Ok.ensures.run c.in-Ok.ensures.source.came.0.follows c.finish.result c.finish.ensures.text c.finish.ensures.few)
 
 pub returns-in-Err-Unexpected-clause-reaches : goal.returns-in-Err-Unexpected-clause-reaches
 returns-in-Err-Unexpected-clause-reaches g c =
-    unexpected_from c.args.cluster.now c.args.journal (state_of c.args.outcomes.now).lines.reading (state_of c.args.outcomes.now)
+    rw c.end_as-in-Err-Unexpected.ensures.end
+    (unexpected_from c.args.cluster.now c.args.journal (state_of c.args.outcomes.now).lines.reading (state_of c.args.outcomes.now)
     (state_of c.replay_watched.new.outcomes) (writer_cluster c.args.writer.now) c.requires.fresh c.requires.names (g.S.Source.left (outcomes_source c.args.outcomes.now))
     (g.S.Source.left (outcomes_source c.replay_watched.new.outcomes)) (g.W.Sink.written (sink_of c.args.writer.now)) (g.W.Sink.written (sink_of c.replay_watched.new.watcher))
-    (g.W.Sink.written (sink_of c.end_of_cut.new.writer)) (writer_held c.replay_watched.new.watcher) (has_course_ended (state_of c.args.outcomes.now).course) (has_course_ended (state_of c.replay_watched.new.outcomes).course)
+    (g.W.Sink.written (sink_of c.unexpected.new.self)) (writer_held c.replay_watched.new.watcher) (has_course_ended (state_of c.args.outcomes.now).course) (has_course_ended (state_of c.replay_watched.new.outcomes).course)
     c.in-Err-Unexpected.journal _ _ _ c.in-Err-Unexpected.field-0-1 (λ lines told. rw c.requires.empty at told.text) (rw c.in-Err-Unexpected.field-0-is at c.in-Err-Unexpected.ensures.run)
-    (rw c.in-Err-Unexpected.field-0-is at c.in-Err-Unexpected.ensures.source).came.follows c.end_of_cut.result c.end_of_cut.ensures.text
+    (rw c.in-Err-Unexpected.field-0-is at c.in-Err-Unexpected.ensures.source).came.follows c.unexpected.result (rw c.line.ensures at c.unexpected.ensures.text))
 
 pub returns-in-Err-SourceFault-clause-reaches : goal.returns-in-Err-SourceFault-clause-reaches
 returns-in-Err-SourceFault-clause-reaches g c =
@@ -44,9 +46,10 @@ returns-in-Err-Stopped-clause-reaches g c =
 
 pub returns-in-Err-NoMemory-clause-reaches : goal.returns-in-Err-NoMemory-clause-reaches
 returns-in-Err-NoMemory-clause-reaches g c =
-    between_from c.args.cluster.now c.args.journal (state_of c.args.outcomes.now).lines.reading (state_of c.args.outcomes.now)
+    rw c.end_as-in-Err-NoMemory.ensures.end
+    (between_from c.args.cluster.now c.args.journal (state_of c.args.outcomes.now).lines.reading (state_of c.args.outcomes.now)
     (state_of c.replay_watched.new.outcomes) (writer_cluster c.args.writer.now) c.requires.fresh c.requires.names (g.S.Source.left (outcomes_source c.args.outcomes.now))
     (g.S.Source.left (outcomes_source c.replay_watched.new.outcomes)) (g.W.Sink.written (sink_of c.args.writer.now)) (g.W.Sink.written (sink_of c.replay_watched.new.watcher))
-    (g.W.Sink.written (sink_of c.end_without_memory.new.writer)) (writer_held c.replay_watched.new.watcher) (has_course_ended (state_of c.args.outcomes.now).course) (has_course_ended (state_of c.replay_watched.new.outcomes).course)
+    (g.W.Sink.written (sink_of c.finish-in-Err-NoMemory.new.self)) (writer_held c.replay_watched.new.watcher) (has_course_ended (state_of c.args.outcomes.now).course) (has_course_ended (state_of c.replay_watched.new.outcomes).course)
     c.args.journal _ _ _ (λ lines told. rw c.requires.empty at told.text) (rw c.in-Err-NoMemory.field-0-is at c.in-Err-NoMemory.ensures.run)
-    (rw c.in-Err-NoMemory.field-0-is at c.in-Err-NoMemory.ensures.source).came.follows c.end_without_memory.result c.end_without_memory.ensures.text
+    (rw c.in-Err-NoMemory.field-0-is at c.in-Err-NoMemory.ensures.source).came.follows c.finish-in-Err-NoMemory.result c.finish-in-Err-NoMemory.ensures.text c.finish-in-Err-NoMemory.ensures.few)

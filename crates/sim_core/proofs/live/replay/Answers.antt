@@ -11,8 +11,8 @@ returns-in-Err-clause-says g c =
 pub returns-clause-says : goal.returns-clause-says
 returns-clause-says g c =
     let reached = reaches_by g.S.Source.left _ _ _ _ _ _ _ _ _ _ _ _ refl refl refl c.in-Ok-new-2.ensures c.run_behind-end.ensures.reaches in
-    run_told g.S.Source.left _ _ _ _ _ _ _ _ c.in-Ok-begin.beginning.head _ _ _ _ c.over-reader.ensures.source refl
-    (search rules) refl c.status_of.ensures c.in-Ok-begin.ensures.begun reached c.run_behind-end.ensures.at_end
+    run_told g.S.Source.left _ _ _ _ _ _ _ c.in-Ok-begin.beginning.head _ _ _ c.over-reader.ensures.source (search rules)
+    c.status_of.ensures c.in-Ok-begin.ensures.begun reached c.run_behind-end.ensures.at_end
 
 pub returns-clause-reads : goal.returns-clause-reads
 returns-clause-reads g c =

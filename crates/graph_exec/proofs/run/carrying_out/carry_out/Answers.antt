@@ -1,96 +1,74 @@
-use Rattle.std.proofs.Common.{Some, ap, inl, refl, ◌∙◌}
+use Rattle.std.proofs.Common.{◌≡◌, List, ◌++◌, ap, inl, not, refl, ◌∙◌}
 use Rattle.graph_exec.specs.declared.transition.watcher.Heard.TheVariants as heard
-use Rattle.cluster_types.specs.Steps.{aborts}
+use Rattle.cluster_types.specs.declared.journal.Event.{Event}
 use Rattle.graph_exec.specs.KnownJournals.{KnownJournalOf}
 use Rattle.graph_exec.specs.Executors.{ExecutorOf}
-use Rattle.graph_exec.proofs.Beginning.{found_so}
-use Rattle.graph_exec.proofs.Closings.{broken, closes_aborted, closes_complete, cut, stops_aborted, stops_complete, stops_either}
+use Rattle.graph_exec.proofs.Closings.{HasClosed, broken, closes, cut, has_closed, stops_closing, stops_either}
 use Rattle.graph_exec.proofs.Lasts.{watcher_then, watcher_told}
 use Rattle.graph_exec.proofs.Rests.{accords_first, accords_last, leaves_rest, stays_there}
 use Rattle.graph_exec.proofs.Shown.{shown_closed, shown_closing, shown_first, shown_left}
 use Rattle.graph_exec.proofs.Whole.{events_in}
+use Rattle.graph_exec.proofs.run.carrying_out.carry_out.Given.{Over}
+use Rattle.graph_exec.proofs.run.carrying_out.carry_out.Goals.{After-closed, After-run_watched, in-Complete, in-Aborted}
 use Rattle.graph_exec.proofs.run.carrying_out.carry_out.Goals as goal
 
--- it is complete
+-- a source that agreed with the journal agrees with the one that is left
+agrees_left : (g : Over) (c : After-run_watched g) → c.run_watched.new.executor.cluster ≡ c.args.executor.cluster
+    → g.S.Outcomes.agrees c.args.outcomes.now c.args.executor.cluster c.args.executor.planned_at 0 → (es : List Event)
+    → es ≡ c.run_watched.new.executor.planned_at ++ c.run_watched.new.executor.since → g.S.Outcomes.agrees c.run_watched.new.outcomes c.args.executor.cluster es 0
+agrees_left g c same h es is =
+    accords_last (g.S.Outcomes.agrees c.run_watched.new.outcomes) (λ d xs k a. g.met.S.Outcomes.anew c.run_watched.new.outcomes d xs k a) c.args.executor c.run_watched.new.executor
+    same (c.run_watched.ensures.agrees (accords_first _ _ c.requires.planned.planned.at_rest.1 c.requires.fresh h)) es is
+
+-- it has ended by itself
+
+closed_in : (g : Over) (c : After-closed g) → HasClosed (g.S.Outcomes.whole c.args.outcomes.now) (g.S.Outcomes.steady c.args.outcomes.now) c.args.executor c.run_watched.new.executor
+    (g.S.Outcomes.rest c.args.outcomes.now) (g.S.Outcomes.rest c.run_watched.new.outcomes) (g.S.Outcomes.over c.run_watched.new.outcomes)
+    (g.V.Watcher.follows c.args.watcher.now c.run_watched.new.watcher) c.run_watched.result c.match-run_watched.complete
+closed_in g c =
+    has_closed _ _ _ _ _ _ _ _ _ _ _ _ (elim c.match-run_watched.branch [
+      | in-Complete w ↦ rw w.in-Complete.is w.complete-is
+      | in-Aborted w ↦ rw w.in-Aborted.is w.complete-is
+    ])
+    c.run_watched.ensures.steps c.run_watched.ensures.told c.run_watched.ensures.said c.run_watched.ensures.end c.run_watched.ensures.well
 
 pub returns-in-Go-clause-closes : goal.returns-in-Go-clause-closes
 returns-in-Go-clause-closes g c =
-    closes_complete _ _ _ _ _ c.requires.fresh _ _ _ _ c.in-Complete.ensures.steps _ c.in-Complete.ensures.told _ _ (g.met.V.Watcher.from_before _ _ _) c.in-Complete.ensures.end
-    (λ steady open_still. (c.in-Complete.ensures.said steady).to_end open_still tt) (c.in-Go.ensures.follows refl) _ c.into_parts-journal.ensures.journal
+    closes _ _ _ _ _ c.requires.fresh _ _ _ _ _ _ _ (closed_in g (goal.at.returns-in-Go-clause-closes g c).After-closed) _ _ (g.met.V.Watcher.from_before _ _ _) (c.in-Go.ensures.follows refl) _ c.into_parts.ensures.journal
 
 pub returns-in-Go-clause-at_rest : goal.returns-in-Go-clause-at_rest
 returns-in-Go-clause-at_rest g c =
-    leaves_rest _ _ _ _ _ c.in-Complete.ensures.steps c.requires.planned (λ placed is. (c.in-Complete.ensures.well placed is).0) _ c.into_parts-journal.ensures.journal
+    let h = closed_in g (goal.at.returns-in-Go-clause-at_rest g c).After-closed in
+    leaves_rest _ _ _ _ _ h.went c.requires.planned h.rests _ c.into_parts.ensures.journal
 
 pub returns-in-Go-clause-graph : goal.returns-in-Go-clause-graph
-returns-in-Go-clause-graph g c = c.into_parts-journal.ensures.graph ∙ ap (λ (r : ExecutorOf). r.graph) c.in-Complete.ensures.steps.same
+returns-in-Go-clause-graph g c = c.into_parts.ensures.graph ∙ ap (λ (r : ExecutorOf). r.graph) (closed_in g (goal.at.returns-in-Go-clause-graph g c).After-closed).went.same
 
 pub returns-in-Go-clause-agrees : goal.returns-in-Go-clause-agrees
 returns-in-Go-clause-agrees g c h =
-    accords_last (g.S.Outcomes.agrees c.run_watched.new.outcomes) (λ d es k a. g.met.S.Outcomes.anew c.run_watched.new.outcomes d es k a) c.args.executor c.run_watched.new.executor
-    (stays_there _ _ _ _ _ c.in-Complete.ensures.steps) (c.run_watched.ensures.agrees (accords_first _ _ c.requires.planned.planned.at_rest.1 c.requires.fresh h)) _
-    (ap (λ (x : KnownJournalOf). x.events) c.into_parts-journal.ensures.journal)
+    agrees_left g (goal.at.returns-in-Go-clause-agrees g c).After-run_watched (stays_there _ _ _ _ _ (closed_in g (goal.at.returns-in-Go-clause-agrees g c).After-closed).went) h _ (ap (λ (x : KnownJournalOf). x.events) c.into_parts.ensures.journal)
+
+pub returns-in-Go-clause-answer : goal.returns-in-Go-clause-answer
+returns-in-Go-clause-answer g c aborted = c.run_watched.ensures.aborted.given (rw c.requires.fresh refl) ((closed_in g (goal.at.returns-in-Go-clause-answer g c).After-closed).aborted ∙ ap not aborted)
 
 pub returns-in-Stop-clause-ends : goal.returns-in-Stop-clause-ends
 returns-in-Stop-clause-ends g c =
-    inl (stops_complete _ _ _ _ _ c.requires.fresh _ _ _ _ c.in-Complete.ensures.steps _ c.in-Complete.ensures.told _ _ _ (g.met.V.Watcher.stopped_later _ _ _) c.in-Complete.ensures.end
-    (c.in-Stop.ensures.stopped refl) _ c.into_journal.ensures)
+    inl (stops_closing _ _ _ _ _ c.requires.fresh _ _ _ _ _ _ _ (closed_in g (goal.at.returns-in-Stop-clause-ends g c).After-closed) _ _ _ (g.met.V.Watcher.stopped_later _ _ _) (c.in-Stop.ensures.stopped refl) _ c.into_journal-in-Stop.ensures)
 
 pub returns-in-Stop-clause-agrees_at_end : goal.returns-in-Stop-clause-agrees_at_end
 returns-in-Stop-clause-agrees_at_end g c h =
-    accords_last (g.S.Outcomes.agrees c.run_watched.new.outcomes) (λ d es k a. g.met.S.Outcomes.anew c.run_watched.new.outcomes d es k a) c.args.executor c.run_watched.new.executor
-    (stays_there _ _ _ _ _ c.in-Complete.ensures.steps) (c.run_watched.ensures.agrees (accords_first _ _ c.requires.planned.planned.at_rest.1 c.requires.fresh h)) _
-    (ap events_in c.into_journal.ensures)
-
--- it was aborted
-
-pub returns-in-Go-closed-clause-closes : goal.returns-in-Go-closed-clause-closes
-returns-in-Go-closed-clause-closes g c =
-    closes_aborted _ _ _ _ _ c.requires.fresh _ _ _ _ c.in-Aborted.ensures.steps _ c.in-Aborted.ensures.told _ _ (g.met.V.Watcher.from_before _ _ _) _ c.in-Aborted.ensures.end
-    (λ steady open_still. (c.in-Aborted.ensures.said steady).to_end open_still tt) (c.in-Go-closed.ensures.follows refl) _
-    c.into_parts-journal-in-Go-closed.ensures.journal
-
-pub returns-in-Go-closed-clause-at_rest : goal.returns-in-Go-closed-clause-at_rest
-returns-in-Go-closed-clause-at_rest g c =
-    leaves_rest _ _ _ _ _ c.in-Aborted.ensures.steps c.requires.planned c.in-Aborted.ensures.well _ c.into_parts-journal-in-Go-closed.ensures.journal
-
-pub returns-in-Go-closed-clause-graph : goal.returns-in-Go-closed-clause-graph
-returns-in-Go-closed-clause-graph g c = c.into_parts-journal-in-Go-closed.ensures.graph ∙ ap (λ (r : ExecutorOf). r.graph) c.in-Aborted.ensures.steps.same
-
-pub returns-in-Go-closed-clause-agrees : goal.returns-in-Go-closed-clause-agrees
-returns-in-Go-closed-clause-agrees g c h =
-    accords_last (g.S.Outcomes.agrees c.run_watched.new.outcomes) (λ d es k a. g.met.S.Outcomes.anew c.run_watched.new.outcomes d es k a) c.args.executor c.run_watched.new.executor
-    (stays_there _ _ _ _ _ c.in-Aborted.ensures.steps) (c.run_watched.ensures.agrees (accords_first _ _ c.requires.planned.planned.at_rest.1 c.requires.fresh h)) _
-    (ap (λ (x : KnownJournalOf). x.events) c.into_parts-journal-in-Go-closed.ensures.journal)
-
-pub returns-in-Stop-closed-clause-ends : goal.returns-in-Stop-closed-clause-ends
-returns-in-Stop-closed-clause-ends g c =
-    inl (stops_aborted _ _ _ _ _ c.requires.fresh _ _ _ _ c.in-Aborted.ensures.steps _ c.in-Aborted.ensures.told _ _ _ (g.met.V.Watcher.stopped_later _ _ _) _ c.in-Aborted.ensures.end
-    (c.in-Stop-closed.ensures.stopped refl) _ c.into_journal-in-Stop-closed.ensures)
-
-pub returns-in-Stop-closed-clause-agrees_at_end : goal.returns-in-Stop-closed-clause-agrees_at_end
-returns-in-Stop-closed-clause-agrees_at_end g c h =
-    accords_last (g.S.Outcomes.agrees c.run_watched.new.outcomes) (λ d es k a. g.met.S.Outcomes.anew c.run_watched.new.outcomes d es k a) c.args.executor c.run_watched.new.executor
-    (stays_there _ _ _ _ _ c.in-Aborted.ensures.steps) (c.run_watched.ensures.agrees (accords_first _ _ c.requires.planned.planned.at_rest.1 c.requires.fresh h)) _
-    (ap events_in c.into_journal-in-Stop-closed.ensures)
-
-pub returns-in-Go-closed-clause-answer : goal.returns-in-Go-closed-clause-answer
-returns-in-Go-closed-clause-answer g c aborted =
-    let end = c.in-Aborted.ensures.end in
-    c.in-Aborted.ensures.aborted.given (rw c.requires.fresh refl) (found_so (aborts c.run_watched.new.executor.cluster) c.run_watched.new.executor.since (Some c.in-Aborted.field-0) end.first_is)
+    agrees_left g (goal.at.returns-in-Stop-clause-agrees_at_end g c).After-run_watched (stays_there _ _ _ _ _ (closed_in g (goal.at.returns-in-Stop-clause-agrees_at_end g c).After-closed).went) h _ (ap events_in c.into_journal-in-Stop.ensures)
 
 -- an answer came that doesn't apply
 
 pub returns-in-Unexpected-clause-ends : goal.returns-in-Unexpected-clause-ends
 returns-in-Unexpected-clause-ends g c =
     cut _ _ _ _ _ c.requires.fresh _ _ _ _ _ c.in-Unexpected.answer c.in-Unexpected.ensures.steps c.in-Unexpected.ensures.told c.in-Unexpected.ensures.end _
-    c.into_journal-in-Unexpected.ensures
+    c.into_journal.ensures
 
 pub returns-in-Unexpected-clause-agrees_at_end : goal.returns-in-Unexpected-clause-agrees_at_end
 returns-in-Unexpected-clause-agrees_at_end g c h =
-    accords_last (g.S.Outcomes.agrees c.run_watched.new.outcomes) (λ d es k a. g.met.S.Outcomes.anew c.run_watched.new.outcomes d es k a) c.args.executor c.run_watched.new.executor
-    (stays_there _ _ _ _ _ c.in-Unexpected.ensures.steps.went) (c.run_watched.ensures.agrees (accords_first _ _ c.requires.planned.planned.at_rest.1 c.requires.fresh h)) _
-    (ap events_in c.into_journal-in-Unexpected.ensures)
+    agrees_left g (goal.at.returns-in-Unexpected-clause-agrees_at_end g c).After-run_watched (stays_there _ _ _ _ _ c.in-Unexpected.ensures.steps.went) h _ (ap events_in c.into_journal.ensures)
 
 -- the source failed
 
@@ -101,9 +79,7 @@ returns-in-SourceFault-clause-ends g c =
 
 pub returns-in-SourceFault-clause-agrees_at_end : goal.returns-in-SourceFault-clause-agrees_at_end
 returns-in-SourceFault-clause-agrees_at_end g c h =
-    accords_last (g.S.Outcomes.agrees c.run_watched.new.outcomes) (λ d es k a. g.met.S.Outcomes.anew c.run_watched.new.outcomes d es k a) c.args.executor c.run_watched.new.executor
-    (stays_there _ _ _ _ _ c.in-SourceFault.ensures.steps) (c.run_watched.ensures.agrees (accords_first _ _ c.requires.planned.planned.at_rest.1 c.requires.fresh h)) _
-    (ap events_in c.into_journal-in-SourceFault.ensures)
+    agrees_left g (goal.at.returns-in-SourceFault-clause-agrees_at_end g c).After-run_watched (stays_there _ _ _ _ _ c.in-SourceFault.ensures.steps) h _ (ap events_in c.into_journal-in-SourceFault.ensures)
 
 -- the watcher stopped
 
@@ -112,61 +88,35 @@ returns-in-Stopped-clause-ends g c = stops_either _ _ _ _ _ c.requires.fresh _ _
 
 pub returns-in-Stopped-clause-agrees_at_end : goal.returns-in-Stopped-clause-agrees_at_end
 returns-in-Stopped-clause-agrees_at_end g c h =
-    accords_last (g.S.Outcomes.agrees c.run_watched.new.outcomes) (λ d es k a. g.met.S.Outcomes.anew c.run_watched.new.outcomes d es k a) c.args.executor c.run_watched.new.executor
-    (stays_there _ _ _ _ _ c.in-Stopped.ensures.steps) (c.run_watched.ensures.agrees (accords_first _ _ c.requires.planned.planned.at_rest.1 c.requires.fresh h)) _
-    (ap events_in c.into_journal-in-Stopped.ensures)
+    agrees_left g (goal.at.returns-in-Stopped-clause-agrees_at_end g c).After-run_watched (stays_there _ _ _ _ _ c.in-Stopped.ensures.steps) h _ (ap events_in c.into_journal-in-Stopped.ensures)
 
 -- the watcher has come on through the transition and its end
 
 pub returns-in-Go-clause-watcher : goal.returns-in-Go-clause-watcher
 returns-in-Go-clause-watcher g c =
     let told = c.in-Go.ensures in
-    watcher_then g.V.Watcher _ _ _ _ c.in-Complete.ensures.watcher
-    (watcher_told g.V.Watcher _ _ heard.Go told.same_lines told.count told.cause)
+    watcher_then g.V.Watcher _ _ _ _ (rw (closed_in g (goal.at.returns-in-Go-clause-watcher g c).After-closed).heard at c.run_watched.ensures.watcher) (watcher_told g.V.Watcher _ _ heard.Go told.same_lines told.count told.cause)
 
 pub returns-in-Stop-clause-watcher : goal.returns-in-Stop-clause-watcher
 returns-in-Stop-clause-watcher g c =
     let told = c.in-Stop.ensures in
-    watcher_then g.V.Watcher _ _ _ _ c.in-Complete.ensures.watcher
-    (watcher_told g.V.Watcher _ _ heard.Stop told.same_lines told.count told.cause)
-
-pub returns-in-Go-closed-clause-watcher : goal.returns-in-Go-closed-clause-watcher
-returns-in-Go-closed-clause-watcher g c =
-    let told = c.in-Go-closed.ensures in
-    watcher_then g.V.Watcher _ _ _ _ c.in-Aborted.ensures.watcher
-    (watcher_told g.V.Watcher _ _ heard.Go told.same_lines told.count told.cause)
-
-pub returns-in-Stop-closed-clause-watcher : goal.returns-in-Stop-closed-clause-watcher
-returns-in-Stop-closed-clause-watcher g c =
-    let told = c.in-Stop-closed.ensures in
-    watcher_then g.V.Watcher _ _ _ _ c.in-Aborted.ensures.watcher
-    (watcher_told g.V.Watcher _ _ heard.Stop told.same_lines told.count told.cause)
+    watcher_then g.V.Watcher _ _ _ _ (rw (closed_in g (goal.at.returns-in-Stop-clause-watcher g c).After-closed).heard at c.run_watched.ensures.watcher) (watcher_told g.V.Watcher _ _ heard.Stop told.same_lines told.count told.cause)
 
 -- what the watcher has been shown
 
 pub returns-in-Go-clause-shown : goal.returns-in-Go-clause-shown
 returns-in-Go-clause-shown g c h =
-    let all = c.in-Complete.ensures.shown (shown_first (g.V.Watcher.shown c.args.watcher.now heard.Go) c.args.executor c.requires.planned.planned.at_rest.1 c.requires.fresh h) in
-    shown_closed c.args.executor c.run_watched.new.executor c.in-Complete.ensures.steps.same _ (ap (λ (x : KnownJournalOf). x.events) c.into_parts-journal.ensures.journal)
+    let closed = closed_in g (goal.at.returns-in-Go-clause-shown g c).After-closed in
+    let all = (rw closed.heard at c.run_watched.ensures.shown) (shown_first (g.V.Watcher.shown c.args.watcher.now heard.Go) c.args.executor c.requires.planned.planned.at_rest.1 c.requires.fresh h) in
+    shown_closed c.args.executor c.run_watched.new.executor closed.went.same _ (ap (λ (x : KnownJournalOf). x.events) c.into_parts.ensures.journal)
     (g.V.Watcher.shown c.closed.new.self heard.Go) (c.in-Go.ensures.shown _ _ _ _ all.shown_now)
-
-pub returns-in-Go-closed-clause-shown : goal.returns-in-Go-closed-clause-shown
-returns-in-Go-closed-clause-shown g c h =
-    let all = c.in-Aborted.ensures.shown (shown_first (g.V.Watcher.shown c.args.watcher.now heard.Go) c.args.executor c.requires.planned.planned.at_rest.1 c.requires.fresh h) in
-    shown_closed c.args.executor c.run_watched.new.executor c.in-Aborted.ensures.steps.same _ (ap (λ (x : KnownJournalOf). x.events) c.into_parts-journal-in-Go-closed.ensures.journal)
-    (g.V.Watcher.shown c.closed-in-Aborted.new.self heard.Go) (c.in-Go-closed.ensures.shown _ _ _ _ all.shown_now)
 
 pub returns-in-Stop-clause-shown_at_end : goal.returns-in-Stop-clause-shown_at_end
 returns-in-Stop-clause-shown_at_end g c h =
-    let all = c.in-Complete.ensures.shown (shown_first (g.V.Watcher.shown c.args.watcher.now heard.Go) c.args.executor c.requires.planned.planned.at_rest.1 c.requires.fresh h) in
-    shown_closing c.args.executor c.run_watched.new.executor c.in-Complete.ensures.steps.same _ (ap events_in c.into_journal.ensures) (g.V.Watcher.shown c.closed.new.self) heard.Stop
+    let closed = closed_in g (goal.at.returns-in-Stop-clause-shown_at_end g c).After-closed in
+    let all = (rw closed.heard at c.run_watched.ensures.shown) (shown_first (g.V.Watcher.shown c.args.watcher.now heard.Go) c.args.executor c.requires.planned.planned.at_rest.1 c.requires.fresh h) in
+    shown_closing c.args.executor c.run_watched.new.executor closed.went.same _ (ap events_in c.into_journal-in-Stop.ensures) (g.V.Watcher.shown c.closed.new.self) heard.Stop
     (c.in-Stop.ensures.shown _ _ _ _ all.shown_now)
-
-pub returns-in-Stop-closed-clause-shown_at_end : goal.returns-in-Stop-closed-clause-shown_at_end
-returns-in-Stop-closed-clause-shown_at_end g c h =
-    let all = c.in-Aborted.ensures.shown (shown_first (g.V.Watcher.shown c.args.watcher.now heard.Go) c.args.executor c.requires.planned.planned.at_rest.1 c.requires.fresh h) in
-    shown_closing c.args.executor c.run_watched.new.executor c.in-Aborted.ensures.steps.same _ (ap events_in c.into_journal-in-Stop-closed.ensures) (g.V.Watcher.shown c.closed-in-Aborted.new.self) heard.Stop
-    (c.in-Stop-closed.ensures.shown _ _ _ _ all.shown_now)
 
 pub returns-in-Stopped-clause-shown_at_end : goal.returns-in-Stopped-clause-shown_at_end
 returns-in-Stopped-clause-shown_at_end g c h =
@@ -176,7 +126,7 @@ returns-in-Stopped-clause-shown_at_end g c h =
 pub returns-in-Unexpected-clause-shown_at_end : goal.returns-in-Unexpected-clause-shown_at_end
 returns-in-Unexpected-clause-shown_at_end g c h =
     let all = c.in-Unexpected.ensures.shown (shown_first (g.V.Watcher.shown c.args.watcher.now heard.Go) c.args.executor c.requires.planned.planned.at_rest.1 c.requires.fresh h) in
-    shown_left c.args.executor c.run_watched.new.executor c.in-Unexpected.ensures.steps.went.same _ (ap events_in c.into_journal-in-Unexpected.ensures) (g.V.Watcher.shown c.run_watched.new.watcher) heard.Go all.shown_now
+    shown_left c.args.executor c.run_watched.new.executor c.in-Unexpected.ensures.steps.went.same _ (ap events_in c.into_journal.ensures) (g.V.Watcher.shown c.run_watched.new.watcher) heard.Go all.shown_now
 
 pub returns-in-SourceFault-clause-shown_at_end : goal.returns-in-SourceFault-clause-shown_at_end
 returns-in-SourceFault-clause-shown_at_end g c h =

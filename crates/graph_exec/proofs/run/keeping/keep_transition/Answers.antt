@@ -34,7 +34,7 @@ returns-in-Ok-ask_idle-clause-goes_on g c es first keeps =
     let ends = c.count-ends_at.ensures ∙ ap (λ (x : KnownJournalOf). length x.events) c.into_known-later.ensures in
     goes_on_answered c.args.journal c.in-Ok.planned c.in-Ok.ensures.ready _ _ es first _ _ _ keeps _ _ _ c.count-begins_at.ensures ends _ c.passed_end.result refl _ c.in-Ok-keep_behind.ensures.ok
     _ made.steps _ made.source.over (λ steady open_still. (made.said steady).to_end open_still tt) (c.passed_end.ensures ∙ ap (λ (x : End). passed_end x) c.in-Complete.is) made.end _
-    c.into_known-later.ensures _ _ (λ steady h. c.ask_idle.ensures.source.over (made.source.steady ∙ steady) h) c.in-Ok-ask_idle.taken (rw made.source.whole at c.in-Ok-ask_idle.ensures.answered)
+    c.into_known-later.ensures _ _ (λ steady h. c.ask_idle.ensures.source.over (made.source.steady ∙ steady) h) c.in-Ok-ask_idle._answer c.in-Ok-ask_idle.next (rw made.source.whole at c.in-Ok-ask_idle.ensures.answered)
 
 pub returns-in-Ok-ask_idle-clause-agrees : goal.returns-in-Ok-ask_idle-clause-agrees
 returns-in-Ok-ask_idle-clause-agrees g c h =

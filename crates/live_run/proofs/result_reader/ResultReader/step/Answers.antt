@@ -3,9 +3,9 @@ use Rattle.cluster_io.proofs.Bearing.{Bears-as}
 use Rattle.cluster_io.specs.LineReaders.{reading_of}
 use Rattle.live_run.specs.Inner.ComingSteps.{said_came}
 use Rattle.live_run.specs.LineSays.{line_says}
-use Rattle.live_run.specs.declared.line_result.Came.TheVariants as came
-use Rattle.live_run.specs.declared.line_meaning.Said.{Said}
-use Rattle.live_run.specs.declared.line_meaning.Said.TheVariants as said
+use Rattle.live_run.specs.declared.result_reader.Came.TheVariants as came
+use Rattle.live_run.specs.declared.line_saying.Said.{Said}
+use Rattle.live_run.specs.declared.line_saying.Said.TheVariants as said
 use Rattle.live_run.proofs.Bringing.{before_behind, fewer_left, line_brings, long_number, numbers_fit, ready_behind, too_large_brings, too_long_brings}
 use Rattle.live_run.proofs.Held.{line_says_some, never_fails}
 use Rattle.live_run.proofs.Stepping.{end_until, fault_until, line_until, too_large_until, too_long_until}
