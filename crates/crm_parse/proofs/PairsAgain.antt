@@ -8,9 +8,9 @@ use Rattle.std.proofs.lemmas.Bool.{or_left, or_right, false≢true, false_from_n
 use Rattle.crm_lex.specs.Names.{is}
 use Rattle.crm_parse.specs.declared.pair.Kv.{Kv}
 use Rattle.crm_parse.specs.declared.place.Place.{Place}
-use Rattle.crm_parse.specs.Pairs.{kv_of, with_section}
+use Rattle.crm_parse.specs.Pairs.{with_section}
 use Rattle.crm_parse.specs.Texts.{cut_at}
-use Rattle.crm_parse.proofs.PairWords.{pair_word, kv_of-word, has, place-behind}
+use Rattle.crm_parse.proofs.PairWords.{pair_word, has, place-behind}
 use Rattle.crm_parse.proofs.Binds.{is-true}
 use Rattle.crm_parse.proofs.PairLists.{pair_words, Kept}
 
@@ -20,10 +20,6 @@ cut_at-again byte key value h =
     let n : position_or_len (λ b. b == byte) (key ++ byte ∷ value) ≡ length key = place-behind (λ b. b == byte) key byte value h (eq-eqb byte byte refl) in
     let l : ltb (length key) (length (key ++ byte ∷ value)) ≡ true = lt-ltb _ _ (omega (arith, length-append key (byte ∷ value))) in
     rw (n, l, take-append_seam key (byte ∷ value), drop-append-add key (byte ∷ value) 1) refl
-
--- a pair is read again from the word that it spells
-pub kv_of-again : (place : Place) (word : List ℕ) (kv : Kv) → kv_of place word ≡ Ok kv → kv_of place (pair_word kv) ≡ Ok kv
-kv_of-again place word kv e = subst (λ w. kv_of place w ≡ Ok kv) (kv_of-word place word kv e) e
 
 -- a word with the byte isn't one without it
 pub differ : (byte : ℕ) (word text : List ℕ) → has byte word ≡ true → has byte text ≡ false → is word text ≡ false

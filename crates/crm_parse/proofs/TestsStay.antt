@@ -19,9 +19,6 @@ use Rattle.crm_parse.proofs.FaultsStay.{Goes, Stays, GoesOn, goes-on-by, goes-on
 use Rattle.crm_parse.proofs.Grammar.ExpressionRelated.{joined-shorter}
 
 module _ (cause : ParseCause) (more : Words) where
-  abbrev kept : {A : Type 0} → A × Words × Words → A × Words × Words
-  kept got = left_kept more got
-
   noted-stays : (noted words : Words) → Stays cause (noted_at noted words) (noted_at noted (words ++ more))
   unfolding noted_at
   noted-stays noted words = step cause (left more) (next_word_in words) (next_word_in (words ++ more)) _ (next-stays cause more words) (next-goes cause more words) (λ word e. ok-stays cause _ _)

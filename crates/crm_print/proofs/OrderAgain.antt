@@ -16,13 +16,13 @@ use Rattle.crm_parse.specs.Order.{ends_steps, kind_at, kind_by_word, order_at, r
 use Rattle.crm_parse.specs.OrderActions.{action_after, with_actions}
 use Rattle.crm_parse.specs.Reading.{Words}
 use Rattle.crm_parse.specs.Statements.{finished}
-use Rattle.crm_parse.specs.Values.{action_of, bool_of}
+use Rattle.crm_parse.specs.Values.{action_of}
 use Rattle.crm_parse.specs.WordTexts.{action_word_text, bool_text, kind_text}
 use Rattle.crm_parse.proofs.Binds.{name_at-again}
 use Rattle.crm_parse.proofs.PairsAgain.{cut_at-again}
 use Rattle.crm_parse.proofs.PairWords.{has}
 use Rattle.crm_parse.proofs.LackedBytes.{has-append, name-lacks, no_label}
-use Rattle.crm_print.proofs.Written.{step_word, written}
+use Rattle.crm_print.proofs.Written.{step_word}
 use Rattle.crm_parse.proofs.OrderRead.{Named, actions-named, IsOrder}
 
 -- a step with the action that it was given
@@ -44,16 +44,6 @@ action_again Start = refl
 action_again Stop = refl
 action_again Promote = refl
 action_again Demote = refl
-
-kind_again : (kind : KindWord) → kind_by_word (kind_text kind) ≡ Ok kind
-unfolding kind_by_word
-kind_again Mandatory = refl
-kind_again Optional = refl
-kind_again Serialize = refl
-
-bool_again : (b : Bool) → bool_of (bool_text b) ≡ Some b
-bool_again true = refl
-bool_again false = refl
 
 action_lacks : (action : ActionWord) → has 61 (58 ∷ action_word_text action) ≡ false
 action_lacks Start = refl
@@ -148,8 +138,3 @@ order-again promotable order h =
 pub order-finished : (promotable other : Words) (order : OrderDraft) → finished other (draft.Order (done_order promotable order)) ≡ finished promotable (draft.Order order)
 order-finished promotable other order =
     ap (λ ss. form.Order order.id order.kind ss order.symmetrical) (actions-again other Start (with_actions promotable Start order.steps))
-
--- its words are those that are written
-pub order-written : (promotable : Words) (order : OrderDraft)
-    → written (finished promotable (draft.Order order)) ≡ codes "order" ∷ order_words order.id order.kind (with_actions promotable Start order.steps) order.symmetrical
-order-written promotable order = refl

@@ -14,7 +14,6 @@ use Rattle.crm_parse.specs.Location.{all_of, either_at, rule_at, rule_id_at, rul
 use Rattle.crm_parse.specs.Reading.{Words, prefixed_at, rule_role_of, score_of, some_name, next_word_in}
 use Rattle.crm_parse.specs.Rules.{expression_at, joiner_at}
 use Rattle.crm_parse.specs.Texts.{after}
-use Rattle.crm_parse.specs.WordTexts.{role_text}
 use Rattle.crm_parse.proofs.Affixes.{noted_words, prefixed_at-again}
 use Rattle.crm_parse.proofs.Binds.{some_name-ok, unless-ok, ok-same}
 use Rattle.faults.proofs.Steps.{bind-ok}
@@ -27,11 +26,6 @@ use Rattle.crm_print.proofs.Written.{role_words, rule_words, ruled_words, score_
 pub score_label : (b : ℕ) (label : List ℕ) (points : ℤ) (words : Words) → after (b ∷ label) (score_word points) ≡ None
     → prefixed_at (b ∷ label) (score_word points ∷ words) ≡ (None, score_word points ∷ words)
 score_label b label points words h = rw (h, prefixed_at) refl
-
-pub rule_role_of-again : (r : RoleWord) → rule_role_of (role_text r) ≡ Ok r
-unfolding rule_role_of
-rule_role_of-again role.Started = refl
-rule_role_of-again role.Promoted = refl
 
 -- the words of a rule behind its id
 abbrev after_id : Option RoleWord → ℤ → Words → Words

@@ -52,17 +52,11 @@ join xs ys ws vs s t = record { same = map-append item_word xs ys ∙ (ap (λ (u
 word-is : (text : List ℕ) → item_word (word text) ≡ text
 word-is text = append-nil text
 
-colon-is : (text : List ℕ) → item_word (with_colon text) ≡ text ++ codes ":"
-colon-is text = refl
-
 labelled-is : (label text : List ℕ) → item_word (labelled label text) ≡ label ++ text
 labelled-is label text = ap (λ t. label ++ t) (append-nil text)
 
 pair-is : (kv : Kv) → item_word (pair kv) ≡ pair_word kv
 pair-is kv = ap (λ (t : List ℕ). kv.key ++ 61 ∷ t) (append-nil kv.value)
-
-parted-is : (first second : List ℕ) → item_word (parted first second) ≡ first ++ 58 ∷ second
-parted-is first second = ap (λ (t : List ℕ). first ++ 58 ∷ t) (append-nil second)
 
 words-spell : (words : Words) → Spells (map word words) words
 words-spell [] = nothing

@@ -14,14 +14,6 @@ use Rattle.edges.proofs.Entering.{Enters, enters_of}
 use Rattle.edges.proofs.Longest.{above_alike, longest_are_heights, longest_bounded}
 use Rattle.edges.proofs.Members.{StandsAt, has_at, has_take, not_before, place_of}
 
--- one place more
-pub above_more : (f : ℕ → ℕ) (xs : List ℕ) (i : ℕ) → i < length xs
-    → above f (take (i + 1) xs) ≡ max (above f (take i xs)) (f (slice_index_or xs i 0) + 1)
-above_more f xs i lt =
-    ap (above f) (take_more xs i 0 lt)
-    ∙ ap (fold max 0) (map-append (λ x. f x + 1) (take i xs) (slice_index_or xs i 0 ∷ []))
-    ∙ fold-append max 0 (map (λ x. f x + 1) (take i xs)) ((f (slice_index_or xs i 0) + 1) ∷ [])
-
 -- from this place of the order on, each position has its length
 pub record AreMeasured (positions : ℕ) (edges : List Edge) (order : List ℕ) (left : ℕ) (ways : List ℕ) : Type 0 where
   pub size : length ways ≡ positions

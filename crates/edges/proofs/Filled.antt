@@ -260,13 +260,3 @@ target_lists positions edges = length-map-range_with_len (edge_targets_of edges)
 
 pub targets_at : (positions : ℕ) (edges : List Edge) (x : ℕ) → x < positions → slice_index_or (edge_targets positions edges) x [] ≡ edge_targets_of edges x
 targets_at positions edges x low = get_or-map-range_with_len (edge_targets_of edges) 0 positions x x [] low (omega arith)
-
--- no edge is filled in yet
-pub none_filled : (positions : ℕ) (edges : List Edge) (ends targets : List ℕ) → length ends ≡ positions → length targets ≡ length edges
-    → ((x : ℕ) → x < positions → slice_index_or ends x 0 ≡ edges_below edges x) → AreRows positions edges [] ends targets
-none_filled positions edges ends targets size room at = record {
-  size = size;
-  room = room;
-  ends_at = λ x low. let e = at x low in omega arith;
-  filled = λ x k low few. absurd (let f : ⊥ = omega arith in f);
-}

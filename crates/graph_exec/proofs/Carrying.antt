@@ -10,7 +10,7 @@ use Rattle.cluster_types.specs.declared.journal.Event.TheVariants.{Begin}
 use Rattle.cluster_types.specs.Sources.{Says, untold}
 use Rattle.cluster_types.specs.declared.journal.Outcome.TheVariants.{Code}
 use Rattle.cluster_types.specs.AnswersThatApply.{is_number_of}
-use Rattle.cluster_types.specs.Steps.{Transition, StepsOn, begins, takes, is_silent, Goes, here, one_more, HasEnded, IsWaiting, ended, answer_events, numbers_in_flight, in_flight_by_number, is_settled, silent_code}
+use Rattle.cluster_types.specs.Steps.{Transition, StepsOn, begins, takes, is_silent, Goes, here, one_more, HasEnded, ended, answer_events, numbers_in_flight, in_flight_by_number, is_settled, silent_code}
 use Rattle.run_safety.proofs.InFlight.{among_flying}
 use Rattle.run_safety.proofs.Printed.{answer_line, end_line}
 use Rattle.graph_exec.specs.declared.transition.ends.WatchedEnd.{WatchedEnd}
@@ -175,6 +175,3 @@ module _ (r : ExecutorOf) (settled : is_settled (transition_in r) r.since ≡ tr
 
   pub has_ended_now : length shown ≡ 0 → HasEnded (transition_in r) r.since
   has_ended_now none = record { settled = settled; idle = nil_from_length _ (sym as_many ∙ none) }
-
-  pub waits_now : (length shown ≡ 0 → ⊥) → IsWaiting (transition_in r) r.since
-  waits_now some = record { settled = settled; busy = let m = as_many in grind arith }

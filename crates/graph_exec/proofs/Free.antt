@@ -129,9 +129,6 @@ module _ (g : GraphOf) (graph : IsGraph g) (begun succeeded ready : List Bool) (
       sym (c.actions (j - 1) (omega arith)) ∙ h
   passes k j some lt none low high false e = refl
 
-  number_of : (x : ℕ) → x < length g.actions → (nat_lt 0 (x + 1) && nat_le (x + 1) (length g.actions)) ≡ true
-  number_of x lt = grind arith
-
   comes_before : (x k : ℕ) → x < length g.actions → 0 < k → k ≤ length g.actions → LeadsByGates (length g.actions) g.edges.list x (k - 1)
       → is_before g (x + 1) k ≡ true
   comes_before x k lt low high leads =

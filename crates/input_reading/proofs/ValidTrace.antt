@@ -11,8 +11,6 @@ use Rattle.faults.specs.declared.fault.Fault.{Fault}
 use Rattle.faults.specs.Reading.{Gives}
 use Rattle.lemmas.proofs.Results.{by_result}
 use Rattle.input_reading.specs.RunReading.{read_run_lines}
-use Rattle.input_reading.specs.PrintedLines.{AreNamed}
-use Rattle.input_reading.proofs.NamedLines.{read_named}
 use Rattle.input_reading.specs.declared.input.cause.InputCause.{InputCause}
 use Rattle.input_reading.specs.declared.input.cause.InputCause.TheVariants as cause
 use Rattle.input_reading.specs.declared.input.reading.Configuration.{Configuration}
@@ -81,9 +79,6 @@ module _ (text : List ℕ) (trace : Trace) (r : ReadsTrace text trace) where
       let lines = status_lines steps.found.marks steps.found.lines in
       let made = head_made steps.found.crm steps.cluster lines trace.head steps.head in
       (journal_orderly steps.cluster lines trace.head.journal made.journal, journal_idle steps.cluster lines trace.head.journal made.journal)
-
-  pub run_named : AreNamed trace.run.lines
-  run_named = subst (λ found. IfOk found AreNamed) steps.run (read_named trace.head.cluster steps.lines)
 
 -- what a call that read a text returned
 module _ (text : List ℕ) (given : Result Trace (Fault InputCause)) where

@@ -9,7 +9,7 @@ use Rattle.std.proofs.lemmas.Option.{slice_get-get_or, slice_get_within}
 use Rattle.lemmas.proofs.Booleans.{equal_turned}
 use Rattle.cluster_types.specs.declared.cluster.Cluster.{Cluster}
 use Rattle.cluster_types.specs.declared.journal.Promotion.{Promotion}
-use Rattle.cluster_types.proofs.TableCells.{ordered, same_place}
+use Rattle.cluster_types.proofs.TableCells.{same_place}
 use Rattle.cluster_types.specs.Terms.{promotion_score}
 use Rattle.placement.specs.Promotions.{AreSaid, score_said_of}
 use Rattle.placement.specs.Inner.Promotions.{is_vacant}
@@ -103,15 +103,6 @@ module _ (c : Cluster) (before : List Promotion) (p : Promotion) (said : List (O
             ∙ (ap Some (get_or-set_other said place (place_of r n) (Some p.score) None (let f : place_of r n ≢ place = grind (arith, apart) in f))
             ∙ (sym (slice_get-get_or said (place_of r n) None low_place)
             ∙ stands r n leaf node (λ none here. false≢true (sym e ∙ here))))
-
--- nothing is said yet
-pub none-said : (c : Cluster) (cells : ℕ) → cells ≡ length c.leaves * length c.nodes → AreSaid c [] (replicate cells None)
-none-said c cells size = record {
-  size = length-replicate cells None ∙ size;
-  each = λ r n leaf node.
-      let low : r * length c.nodes + n < cells = (let up = ordered (length c.nodes) r n (length c.leaves) 0 node leaf in omega (arith, up, size)) in
-      slice_get-get_or (replicate cells None) (r * length c.nodes + n) None (omega (arith, low, length-replicate {A = Option ℤ} cells None)) ∙ ap Some (get_or-replicate cells (r * length c.nodes + n) None None low);
-}
 
 -- what is free keeps nothing, and what isn't keeps something or isn't there
 pub freed : (said : List (Option ℤ)) (place : ℕ) → is_vacant said place ≡ true → slice_get said place ≡ Some None

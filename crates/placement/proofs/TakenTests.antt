@@ -14,20 +14,6 @@ module _ (nodes : ℕ) (first : Targets) (rule : Dependency) (anywhere : Bool)
   known_anywhere : rule.local ≡ false → anywhere ≡ is_anywhere nodes first rule.primary rule.primary_role
   known_anywhere e = known ∙ ap (λ (b : Bool). not b && is_anywhere nodes first rule.primary rule.primary_role) e
 
-  same_primary : has_primary_where first rule anywhere n ≡ has_its_primary nodes first rule n
-  same_primary = go rule.local refl
-    where
-      go : (b : Bool) → rule.local ≡ b
-          → (if b then holds_role first rule.primary rule.primary_role n else anywhere)
-          ≡ (if b then holds_role first rule.primary rule.primary_role n else is_anywhere nodes first rule.primary rule.primary_role)
-      go true e = refl
-      go false e = known_anywhere e
-
-  -- while nothing was taken away
-  pub takes_at_first : (holds_role first rule.dependent rule.dependent_role n && not (has_primary_where first rule anywhere n)) ≡ false
-      → takes nodes first rule n ≡ false
-  takes_at_first h = ap (λ (b : Bool). holds_role first rule.dependent rule.dependent_role n && not b) (sym same_primary) ∙ h
-
   -- and later
   pub takes_now : (now : Targets) → ((r : ℕ) (given : Role) (m : ℕ) → holds_role now r given m ≡ true → holds_role first r given m ≡ true)
       → (holds_role now rule.dependent rule.dependent_role n && not (has_primary_where now rule anywhere n)) ≡ true → takes nodes now rule n ≡ true

@@ -90,8 +90,3 @@ module _ (nodes node : ℕ) (term : ℤ) (terms : ℕ → List ℤ) (old new : L
           let h : finite_at new node ≤ℤ pos (1000000 * few (more node)) = omega (arith, ints, a, p, here, count) in
           subst (λ (k : ℕ). finite_at new k ≤ℤ pos (1000000 * few (more k))) (sym e) h
       most n below (inr e) = rw (more-other n e, others n e) (is.most n below)
-
--- nothing more anywhere
-pub put-nowhere : (nodes node : ℕ) (term : ℤ) (terms : ℕ → List ℤ) (row : List Tally) → IsRow nodes terms row
-    → IsRow nodes (more_where (λ n. false && node == n) term terms) row
-put-nowhere nodes node term terms row is = row-same nodes terms _ row (λ n low. sym (append-nil (terms n))) is

@@ -39,13 +39,6 @@ fewer-unmarked (m ∷ marks) (suc k) h =
     let rest = fewer-unmarked marks k h in
     omega (arith, a, b, rest)
 
-there : (marks : List Bool) (s : ℕ) → get_or marks s true ≡ false → s < length marks
-there marks s h = go (cases_lt s (length marks))
-  where
-    go : (s < length marks) ⊎ (length marks ≤ s) → s < length marks
-    go (inl low) = low
-    go (inr high) = let e = get_or-eq_default marks true high in cc
-
 -- what one step of a pass leaves
 pub fewer-or : (start old now : ℕ) (changed missed : Bool) → now + cond missed 1 0 ≡ old → old + cond changed 1 0 ≤ start
     → now + cond (changed || missed) 1 0 ≤ start
@@ -71,22 +64,6 @@ module _ (c : Cluster) (r : ℕ) where
   pub tied-within : (k most s : ℕ) → k ≤ most → is_tied c k s r ≡ true → is_tied c most s r ≡ true
   tied-within k most s low h =
       subst (λ (m : ℕ). is_tied c m s r ≡ true) (let e : (most - k) + k ≡ most = omega (arith, low) in e) (tied-more (most - k) k s h)
-
--- at the start none has a mark
-pub none-tied : (c : Cluster) (r : ℕ) (marks : List Bool) → marks ≡ replicate (length c.leaves) false → AreTied c r marks
-none-tied c r marks is = record {
-  size = size;
-  most = 0;
-  enough = let few = count_by-le-length not marks in omega (arith, few, size);
-  tied = λ s h. go s (cases_lt s (length c.leaves)) h;
-}
-  where
-    size : length marks ≡ length c.leaves
-    size = ap length is ∙ length-replicate (length c.leaves) false
-
-    go : (s : ℕ) → (s < length c.leaves) ⊎ (length c.leaves ≤ s) → is_marked marks s ≡ true → is_tied c 0 s r ≡ true
-    go s (inl low) h = let e : get_or marks s false ≡ false = ap (λ ms. get_or ms s false) is ∙ get_or-replicate (length c.leaves) s false false low in cc
-    go s (inr high) h = let e : get_or marks s false ≡ false = get_or-eq_default marks false (omega (arith, high, size)) in cc
 
 -- one tie is followed
 module _ (r : ℕ) (marks : List Bool) (tie : Edge) where

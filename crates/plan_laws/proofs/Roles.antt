@@ -5,7 +5,7 @@ use Rattle.cluster_types.specs.declared.journal.Action.TheVariants.{Fence, Probe
 use Rattle.cluster_types.specs.declared.leaf.Op.TheVariants as op
 use Rattle.cluster_types.specs.declared.leaf.Role.{Role}
 use Rattle.cluster_types.specs.declared.leaf.Role.TheVariants as role
-use Rattle.cluster_types.specs.Precedence.{LeafOnNode, gives_any, gives_role, probe_cell, start_cell, takes_or_probes}
+use Rattle.cluster_types.specs.Precedence.{LeafOnNode, gives_any, gives_role, start_cell, takes_or_probes}
 use Rattle.plan_laws.proofs.Words.{OfCell, of_cell, cell_there, leaf_is}
 
 -- what gives a role
@@ -66,10 +66,3 @@ taken role.Promoted (Operation op.Demote r n i role) a h = subst (TakesFrom (Ope
 taken role.Promoted (Operation op.Monitor r n i role) a h = cc
 taken role.Promoted (MigrateTo r s t) a h = cc
 taken role.Promoted (MigrateFrom r s t) a h = cc
-
-pub probed : (x : Action) (a : LeafOnNode) → probe_cell x ≡ Some a → TakesFrom x a.leaf
-probed (Probe r n) a h = subst (TakesFrom (Probe r n)) (leaf_is r n a h) (asks r n)
-probed (Fence n) a h = cc
-probed (Operation o r n i role) a h = cc
-probed (MigrateTo r s t) a h = cc
-probed (MigrateFrom r s t) a h = cc

@@ -122,24 +122,6 @@ module _ (c : Cluster) (actions : List Action) where
       let s = sum_by-cons most x xs in
       omega arith
 
-  pub joins_few : ((x : Action) → stands c actions first_joins x ≤ 5) → (base : ℕ)
-      → length (edges_by base (joins_of c)) ≤ 5 * length actions
-      + sum_by (λ (col : Colocation). 4 * count_by (is_of_either col.dependent col.primary) actions) c.colocations
-      + sum_by (λ (o : Order). 4 * count_by (is_of_either o.first o.then_leaf) actions) c.orders
-  joins_few few base =
-      let first : length (edges_by base first_joins) ≤ 5 * length actions = few_edges c actions (rows_of_join c) (width_of_join c) few base in
-      let mid = gates_upto c actions (rows_of_join c) (width_of_join c) (places_of actions) base first_joins in
-      let e = edges-append c actions (rows_of_join c) (width_of_join c) (places_of actions) base first_joins (flat_map colocation_joins c.colocations ++ flat_map order_joins c.orders) in
-      let f = edges-append c actions (rows_of_join c) (width_of_join c) (places_of actions) mid (flat_map colocation_joins c.colocations) (flat_map order_joins c.orders) in
-      let g = ap length e in
-      let h = ap length f in
-      let on = gates_upto c actions (rows_of_join c) (width_of_join c) (places_of actions) mid (flat_map colocation_joins c.colocations) in
-      let l = length-append (edges_by base first_joins) (edges_by mid (flat_map colocation_joins c.colocations ++ flat_map order_joins c.orders)) in
-      let m = length-append (edges_by mid (flat_map colocation_joins c.colocations)) (edges_by on (flat_map order_joins c.orders)) in
-      let a = rules_few colocation_joins (λ (col : Colocation). 4 * count_by (is_of_either col.dependent col.primary) actions) colocation_few mid c.colocations in
-      let b = rules_few order_joins (λ (o : Order). 4 * count_by (is_of_either o.first o.then_leaf) actions) order_few on c.orders in
-      omega arith
-
   -- one of the kind Serialize has no join
   other_few : (base : ℕ) (o : Order) → length (edges_by base (order_joins o)) ≤ most_other actions o
   other_few base o = on (is_serialize o.kind) refl

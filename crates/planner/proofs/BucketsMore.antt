@@ -14,7 +14,7 @@ use Rattle.cluster_types.specs.Precedence.{change_cell}
 use Rattle.planner.specs.Inner.Chains.{changed_node, is_at, changed_node_at}
 use Rattle.planner.specs.Inner.Index.{with_place}
 use Rattle.planner.specs.ActionNames.{IsActionWithin}
-use Rattle.planner.proofs.IndexMore.{empty_at, filter_last, set_on}
+use Rattle.planner.proofs.IndexMore.{filter_last, set_on}
 
 abbrev AreAt : (ℕ → Option ℕ) → ℕ → List (List ℕ) → List ℕ → Type 0
 AreAt key nodes buckets xs = (m : ℕ) → m < nodes → unwrap_or (slice_get buckets m) [] ≡ filter (λ i. is_at m (key i)) xs
@@ -43,9 +43,6 @@ buckets_more key nodes buckets more xs i d v l long at inside are e m within =
     ∙ (more_at buckets nodes m (get_or xs i d) v (filter (λ j. is_at m (key j)) (take i xs)) long inside (are m within)
     ∙ (ap (λ w. filter (λ j. is_at m (key j)) (take i xs) ++ cond (is_at m w) (get_or xs i d ∷ []) []) at
     ∙ sym (ap (filter (λ j. is_at m (key j))) (take_more xs i d l) ∙ filter_last (λ j. is_at m (key j)) (take i xs) (get_or xs i d))))
-
-pub no_buckets : (key : ℕ → Option ℕ) (nodes : ℕ) (buckets : List (List ℕ)) → buckets ≡ replicate nodes [] → AreAt key nodes buckets []
-no_buckets key nodes buckets e m within = ap (λ v. unwrap_or (slice_get v m) []) e ∙ (unwrap_or-slice_get (replicate nodes []) m [] ∙ empty_at nodes m)
 
 -- a cell that an action changes is on a node of the cluster
 changed_within : (c : Cluster) (a : Action) → IsActionWithin c a → IfSome (changed_node (change_cell a)) (λ m. m < length c.nodes)

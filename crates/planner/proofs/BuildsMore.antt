@@ -32,9 +32,6 @@ module _ (c : Cluster) (actions : List Action) (leaves width : Join → ℕ) (pl
       (edges_of_joins c actions leaves width places (base + width x * leaves x) xs)
       (edges_of_joins c actions leaves width places (gates_upto c actions leaves width places (base + width x * leaves x) xs) ys))
 
-pub builds_none : (c : Cluster) (actions : List Action) (places : Join → List ℕ) → Builds c actions places [] (length actions) []
-builds_none c actions places = record { list_is = refl; base_is = refl }
-
 pub builds_more : (c : Cluster) (actions : List Action) (places : Join → List ℕ) (list : List Edge) (base : ℕ) (js : List Join) (j : Join) (ps : List ℕ) (more : List Edge) (on : ℕ)
     → Builds c actions places list base js → ps ≡ places j
     → more ≡ list ++ join_edges base (width_of c j.from) (key_at c actions j.from) (key_at c actions j.to) ps

@@ -59,10 +59,6 @@ taken_joined (Operation op.Monitor r n i role) v = refl
 taken_joined (MigrateTo r s t) v = refl
 taken_joined (MigrateFrom r s t) v = refl
 
--- of a migrating leaf: three cases
-abbrev pub sends_then_takes : Action → Action → Bool
-sends_then_takes x y = both is_one_cell (send_cell x) (take_in_cell y)
-
 -- what comes before a stop in its cell, before a promote and before a monitor, and what is sent before what is taken in
 both_last : (a b : Bool) → ((a || b) || false) ≡ (a || (b || false))
 both_last true b = refl

@@ -94,6 +94,3 @@ module _ (c : Cluster) (es : List Event) (targets : Targets) (needs : List CellN
   pub all_first : (marks : MarkedCells) (k : ℕ) → k ≡ length c.leaves → ((r n : ℕ) → marks r n ≡ (nat_lt r k && first_marks c es targets r n))
       → marks ≡ first_marks c es targets
   all_first marks k e each = fun_ext (λ r. fun_ext (λ n. each r n ∙ ap (λ j. nat_lt r j && first_marks c es targets r n) e ∙ whole r n))
-
-pub none_first : (all : MarkedCells) (marks : Bool) (k r n : ℕ) → k ≡ 0 → marks ≡ false → marks ≡ (nat_lt r k && all r n)
-none_first all marks k r n e h = h ∙ ap (λ b. b && all r n) (sym (le-ltb r k (omega arith)))

@@ -73,17 +73,3 @@ index_more actions leaves place index more a None long at leaf l is e r m =
     ap (λ v. unwrap_or (slice_get v r) []) e
     ∙ (is r m ∙ (sym (append-nil (leaf_places_before actions r place))
     ∙ sym (places_more actions r place a at ∙ ap (λ b. leaf_places_before actions r place ++ cond b (place ∷ []) []) (no_leaf_is r a leaf))))
-
-abbrev no_lists : ℕ → List (List ℕ)
-no_lists n = replicate n []
-
-abbrev no_list : List ℕ
-no_list = []
-
-pub empty_at : (n r : ℕ) → get_or (no_lists n) r no_list ≡ no_list
-empty_at zero r = refl
-empty_at (suc n) zero = refl
-empty_at (suc n) (suc r) = empty_at n r
-
-pub index_none : (actions : List Action) (leaves : ℕ) (index : List (List ℕ)) → index ≡ replicate leaves [] → IsIndexBefore actions leaves 0 index
-index_none actions leaves index e r m = ap (λ v. unwrap_or (slice_get v r) []) e ∙ (unwrap_or-slice_get (replicate leaves []) r [] ∙ empty_at leaves r)

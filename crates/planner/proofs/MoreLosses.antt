@@ -3,7 +3,6 @@ use Rattle.std.proofs.Common.{◌≡◌, ◌+◌, ℕ, true, false, List, [], �
 use Rattle.std.specs.List.{range_with_len}
 use Rattle.std.proofs.lemmas.List.{append-nil, map-append}
 use Rattle.std.proofs.lemmas.List.Elements.{Contains-push_cases}
-use Rattle.lemmas.proofs.Members.{in_none}
 use Rattle.lemmas.proofs.Ranges.{filter-more}
 use Rattle.cluster_types.specs.declared.cluster.Cluster.{Cluster}
 use Rattle.cluster_types.specs.declared.journal.Event.{Event}
@@ -14,9 +13,6 @@ use Rattle.planner.specs.Losses.{AreLosses, IsLoss}
 use Rattle.planner.specs.Inner.OnlineBefore.{online_before}
 
 module _ (c : Cluster) (es : List Event) (ps : List Promotion) where
-  pub no_losses : (losses : List Loss) → losses ≡ [] → AreLosses c es ps (online_before c es 0) losses
-  no_losses losses none = rw none (record { nodes_lost = refl; each = λ loss h. absurd (in_none loss h) })
-
   module _ (n : ℕ) (losses : List Loss) (so_far : AreLosses c es ps (online_before c es n) losses) where
     pub not_lost : is_online c n es ≡ false → AreLosses c es ps (online_before c es (n + 1)) losses
     not_lost off = record {

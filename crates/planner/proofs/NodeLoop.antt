@@ -45,18 +45,6 @@ module _ (actions : List Action) (o : Order) (places : List ℕ) where
       let b = counted m places in
       omega arith
 
-  none_below : (v : Option ℕ) → is_below 0 v ≡ false
-  none_below (Some n) = grind arith
-  none_below None = refl
-
-  no_count : (xs : List ℕ) → count_by (λ i. is_below 0 (changed_node_at actions i)) xs ≡ 0
-  no_count [] = refl
-  no_count (x ∷ xs) =
-      let a = sum_by-cons (λ i. cond {A = ℕ} (is_below 0 (changed_node_at actions i)) 1 0) x xs in
-      let b : cond {A = ℕ} (is_below 0 (changed_node_at actions x)) 1 0 ≡ 0 = ap (λ v. cond {A = ℕ} v 1 0) (none_below (changed_node_at actions x)) in
-      let d = no_count xs in
-      omega arith
-
   -- chained for one of the first so many nodes
   abbrev pub ChainedBelow : ℕ → ℕ → ℕ → Type 0
   ChainedBelow m x y = (k : ℕ) × (k < m) × IsChained actions o places k x y
@@ -133,12 +121,6 @@ module _ (actions : List Action) (o : Order) (places : List ℕ) where
           adds_says (length actions) old now from base (3 * below (length c.nodes)) (3 * length places) (ChainedBelow (length c.nodes))
           (IsChainedSomewhere actions o places) (λ x y l k q. let (m, less, p) = q in (m, p)) (λ x y l k q. let (m, p) = q in (m, chained_less m x y l p, p))
           (omega arith) h.adds
-
-      pub locals_room : (old now : List Edge) (from base : ℕ) → Locals old now from base (length c.nodes) → base ≤ from + 2 * (length places + length c.nodes)
-      locals_room old now from base h =
-          let most = count_by-le-length (λ i. is_below (length c.nodes) (changed_node_at actions i)) places in
-          let r = h.room in
-          omega arith
 
   pub locals_fit : (old now : List Edge) (from base m : ℕ) → Locals old now from base m → base + 2 * (length (node_places actions m places) + 1)
       ≤ from + 2 * (length places + (m + 1))

@@ -24,22 +24,3 @@ stored into lanes at k long room from to =
 -- a place above them
 pub stored_above : (into lanes : List ℕ) (at k : ℕ) → length lanes ≡ 8 → at + 8 ≤ k → get_or (put_chunk at into lanes) k 0 ≡ get_or into k 0
 stored_above into lanes at k long above = get_or-put_chunk_above at into lanes k 0 (omega arith)
-
--- an operator on the lanes of two lists
-module _ (xs ys : List ℕ) (at : ℕ) (f : ℕ → ℕ → ℕ) (in_xs : at + 8 ≤ length xs) (in_ys : at + 8 ≤ length ys) where
-  -- its lanes are eight
-  pub length-both : length (zip2 f (chunk at 8 xs) (chunk at 8 ys)) ≡ 8
-  length-both =
-      let a = length-chunk at 8 xs in_xs in
-      let b = length-chunk at 8 ys in_ys in
-      length-zip2 f (chunk at 8 xs) (chunk at 8 ys) (omega arith) ∙ a
-
-  -- a lane of it
-  pub get_or-both : (k : ℕ) → at ≤ k → k < at + 8 → get_or (zip2 f (chunk at 8 xs) (chunk at 8 ys)) (k - at) 0 ≡ f (get_or xs k 0) (get_or ys k 0)
-  get_or-both k from to =
-      let a = length-chunk at 8 xs in_xs in
-      let b = length-chunk at 8 ys in_ys in
-      let x = loaded xs at k from to in
-      let y = loaded ys at k from to in
-      let e = get_or-zip2 f (chunk at 8 xs) (chunk at 8 ys) (k - at) 0 0 0 (omega arith) (omega arith) in
-      cc

@@ -138,13 +138,6 @@ zeros_finite zero n = refl
 zeros_finite (suc nodes) zero = refl
 zeros_finite (suc nodes) (suc n) = zeros_finite nodes n
 
--- the finite sum of a node, from what a row stands for
-pub stands_finite : (row : List Tally) (terms : List (List ℤ)) (node : ℕ) → Stands row terms → node < length terms
-    → finite_at row node ≡ sum_of (filter is_finite (get_or terms node []))
-stands_finite row terms node h within =
-    let long = stands_length row terms h in
-    ap (λ (t : Tally). t.finite) (stands_at row terms node (score_tally_of []) h (omega arith))
-
 -- what a row is known by while its fields are seen
 module _ (minuses pluses sums : List ℕ) (row : List Tally) (ml : length minuses ≡ length sums) (pl : length pluses ≡ length sums) (seen : tallies minuses pluses sums ≡ row) where
   -- its nodes

@@ -19,24 +19,6 @@ stored_total_by minus plus sum at_most cut_sum with_plus total a b c d =
     let e : cut_sum ≡ max stored_least (min stored_most sum) = grind arith in
     d ∙ ap (λ x. if nat_lt 0 minus then stored_least else x) (c ∙ ap (λ x. if nat_lt 0 plus then stored_most else x) e)
 
--- the total is a score's
-pub stored_total_least : (minus plus sum : ℕ) → stored_least ≤ stored_total minus plus sum
-stored_total_least minus plus sum = go (nat_lt 0 minus) (nat_lt 0 plus)
-  where
-    go : (m p : Bool) → stored_least ≤ (if m then stored_least else (if p then stored_most else max stored_least (min stored_most sum)))
-    go true p = omega arith
-    go false true = omega arith
-    go false false = omega arith
-
--- the same from above
-pub stored_total_most : (minus plus sum : ℕ) → stored_total minus plus sum ≤ stored_most
-stored_total_most minus plus sum = go (nat_lt 0 minus) (nat_lt 0 plus)
-  where
-    go : (m p : Bool) → (if m then stored_least else (if p then stored_most else max stored_least (min stored_most sum))) ≤ stored_most
-    go true p = omega arith
-    go false true = omega arith
-    go false false = omega arith
-
 -- it is the total of the tally
 pub stored_total_is : (minus plus sum : ℕ) → (pos (stored_total minus plus sum) -ℤ pos bias) ≡ tally_total (stored_tally minus plus sum)
 stored_total_is minus plus sum = go (nat_lt 0 minus) (nat_lt 0 plus)

@@ -7,38 +7,18 @@ use Rattle.faults.specs.declared.fault.Fault.TheVariants.{At}
 use Rattle.faults.specs.Reading.{UnlessMemory}
 use Rattle.live_run.specs.SourceFollowed.{bytes_of}
 use Rattle.live_run.specs.Heads as heads
-use Rattle.live_run.specs.Heads.{CanGoOn, IsStopOf, KeepsBytes, head_behind, so_far, taken}
+use Rattle.live_run.specs.Heads.{IsStopOf, head_behind, taken}
 use Rattle.live_run.specs.declared.head.HeadStop.{HeadStop}
 use Rattle.live_run.specs.declared.head.HeadStop.TheVariants as stop
 use Rattle.input_reading.specs.declared.input.cause.InputCause.{InputCause}
-use Rattle.input_reading.specs.declared.input.reading.Head.{Head}
 use Rattle.sim_core.specs.LiveAnswers.{IsAmidHead}
-use Rattle.sim_core.specs.Inner.LiveSteps.{IsBehind, StopsBy, fresh}
+use Rattle.sim_core.specs.Inner.LiveSteps.{StopsBy, fresh}
 use Rattle.input_reading.specs.Reading.{longest_line, most_bytes, lone_head_of}
 use Rattle.sim_core.specs.Replay.{head_in, words_refused, head_refused}
 
 -- the head behind a reader that was just made is that of the input
 same_head : (old : Reading) (input : List ℕ) → old ≡ fresh → head_in input ≡ head_behind [] old input
 same_head old input e = ap (λ (r : Reading). head_behind [] r input) (sym e)
-
--- it was read to its end
-pub behind : (old new : Reading) (text : List ℕ) (next : ℕ) (before after : Option (List ℕ)) (head : Head) → old ≡ fresh
-    → IfSome before (λ left. head_behind [] old left ≡ taken text next new.room) → KeepsBytes (so_far [] old) (so_far text new) before after
-    → length new.held < 4096 → CanGoOn new × (next ≡ new.next) → lone_head_of text ≡ Ok head → IfSome before (λ input. IsBehind input head new after)
-behind old new text next None after head e told keeps short place says = tt
-behind old new text next (Some input) None head e told keeps short place says = absurd cc
-behind old new text next (Some input) (Some unread) head e told keeps short place says = record {
-  bytes = text;
-  unread = unread;
-  begun = record { is = same_head old input e ∙ (told ∙ ap (λ (n : ℕ). taken text n new.room) place.1); says = says };
-  left_is = refl;
-  parts =
-      let all : Some input ≡ Some (text ++ (new.held ++ unread))
-      = subst (λ (r : Reading). Some ([] ++ (r.held ++ input)) ≡ Some (text ++ (new.held ++ unread))) e keeps in
-      cc;
-  short = short;
-  longest = place.0.longest;
-}
 
 -- it says nothing
 pub faulty : (old new : Reading) (text : List ℕ) (next : ℕ) (before after : Option (List ℕ)) (line : ℕ) (cause : InputCause) → old ≡ fresh

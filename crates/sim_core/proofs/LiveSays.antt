@@ -8,50 +8,18 @@ use Rattle.cluster_types.specs.declared.cluster.Cluster.{Cluster}
 use Rattle.cluster_types.specs.declared.journal.Journal.{Journal}
 use Rattle.live_run.specs.AnswersToCome.{Coming}
 use Rattle.live_run.specs.declared.head.HeadStop.{HeadStop}
-use Rattle.live_run.specs.declared.head.HeadStop.TheVariants as stop
 use Rattle.live_run.specs.declared.live_end.LiveEnd.{LiveEnd}
 use Rattle.live_run.specs.declared.live_end.LiveEnd.TheVariants as end
 use Rattle.live_run.specs.Ends.{EndGets}
 use Rattle.live_run.specs.RunReached as run
 use Rattle.live_run.specs.RunReached.{Reaches, results_behind}
-use Rattle.live_run.specs.Inner.Fronts.{adds_none}
-use Rattle.input_reading.specs.declared.input.cause.InputCause.{InputCause}
 use Rattle.input_reading.specs.declared.input.reading.Head.{Head}
 use Rattle.sim_core.specs.declared.status.Status.{Status}
 use Rattle.sim_core.specs.declared.status.Status.TheVariants.{Done, NoMemory, ReadFault, WriteFault, Refused, Unexpected, TooLarge}
-use Rattle.sim_core.specs.Answers.{MayAnswer}
-use Rattle.sim_core.specs.LiveAnswers.{IsBehindHead, SaysLive, amid_head, behind_head, of_head, of_run, at_first, between_two}
-use Rattle.sim_core.specs.Inner.LiveSteps.{IsBehind, StopsBy, WritesFault, status_of}
-use Rattle.input_reading.specs.Causes.{refusal_text}
-use Rattle.sim_core.specs.Replay.{IsHeadFault, IsReplayOutput, IsTextOfRun, coming_behind}
-use Rattle.sim_core.specs.Commands.{live}
+use Rattle.sim_core.specs.LiveAnswers.{IsBehindHead, SaysLive, behind_head, of_run, between_two}
+use Rattle.sim_core.specs.Inner.LiveSteps.{IsBehind, StopsBy, status_of}
+use Rattle.sim_core.specs.Replay.{IsTextOfRun, coming_behind}
 use Rattle.sim_core.proofs.SameComing.{same_coming}
-
--- the head has a fault
-refused_says : (input : List ℕ) (left before after : Option (List ℕ)) (line : ℕ) (why : InputCause) (status : Status) → IsHeadFault input line why
-    → WritesFault line why before after status → SaysLive input left before after status
-refused_says input left before after line why Refused fault writes =
-    record { text = refusal_text line why; due = inl (record { line = line; why = why; fault = fault; printed = refl }); added = writes }
-refused_says input left before after line why WriteFault fault writes = of_head (record { line = line; why = why; fault = fault; front = writes })
-refused_says input left before after line why NoMemory fault writes = at_first writes
-refused_says input left before after line why _ fault writes = absurd writes
-
-pub refusal_may : (line : ℕ) (why : InputCause) (before after : Option (List ℕ)) (status : Status) → WritesFault line why before after status
-    → MayAnswer true live IsReplayOutput status
-refusal_may line why before after Refused writes = tt
-refusal_may line why before after WriteFault writes = tt
-refusal_may line why before after NoMemory writes = refl
-refusal_may line why before after _ writes = absurd writes
-
-pub fault_says : (line : ℕ) (why : InputCause) (before after : Option (List ℕ)) (status : Status) → WritesFault line why before after status
-    → (input : List ℕ) (left : Option (List ℕ)) → StopsBy input left (stop.Refused line why) → SaysLive input left before after status
-fault_says line why before after status writes input left fault = refused_says input left before after line why status fault writes
-
-pub large_says : (before : Option (List ℕ)) (input : List ℕ) (left : Option (List ℕ)) → StopsBy input left stop.TooLarge → SaysLive input left before before TooLarge
-large_says before input left large = record { text = []; due = inl (record { is = large; printed = refl }); added = adds_none before }
-
-pub amid_says : (before : Option (List ℕ)) (input : List ℕ) (left : Option (List ℕ)) → StopsBy input left stop.ReadFault → SaysLive input left before before ReadFault
-amid_says before input left a = amid_head a refl
 
 -- the status of a failed read is that of this end alone
 pub read_fault_by : (how : LiveEnd) → status_of how ≡ ReadFault → how ≡ end.ReadFault
@@ -114,12 +82,6 @@ run_says (Some input) (Some unread) left before after head reading how k r at_en
     let same : unread ≡ k.unread = cc in
     reached input head reading (Some unread) left before after k how
     (subst (λ (u : List ℕ). Reaches head.cluster head.journal reading u left before after how) same r) at_end
-
-pub run_may : (how : LiveEnd) → MayAnswer true live IsReplayOutput (status_of how)
-run_may end.TooLarge = refl
-run_may end.ReadFault = refl
-run_may end.NoMemory = refl
-run_may _ = tt
 
 -- what is said of the source as it is lent on: that of the reader, of the answers and at the end
 module _ {S : Type 0} (left : S → Option (List ℕ)) where

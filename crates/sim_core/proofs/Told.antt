@@ -7,8 +7,6 @@ use Rattle.cluster_types.specs.declared.run.RunLine.{RunLine}
 use Rattle.input_reading.specs.declared.run.text.RunTextLine.{RunTextLine}
 use Rattle.sim_core.specs.declared.auditor.Auditor.{Auditor}
 use Rattle.sim_core.specs.Inner.Auditors.{PassesLines, StopsAtLine, audited_cluster, audited_lines}
-use Rattle.graph_exec.specs.WatcherLines.{StopsAmong}
-use Rattle.sim_core.specs.Inner.AuditorLaws.{passes_then, stops_later}
 use Rattle.sim_core.specs.LawfulRuns.{clause_of, said}
 
 take_next : {X : Type 0} (xs : List X) (i : ℕ) (x : X) → slice_get xs i ≡ Some x → take (i + 1) xs ≡ take i xs ++ x ∷ []
@@ -46,35 +44,3 @@ pub record HearsOn (old new : Auditor) (lines left : List RunLine) : Type 0 wher
   pub passed : List RunLine
   pub parts : lines ≡ passed ++ left
   pub passes : PassesLines old new passed
-
-module _ (old new : Auditor) (lines : List RunLine) where
-  pub hears_first : (line : RunLine) (left : List RunLine) → lines ≡ line ∷ left → PassesLines old new (line ∷ []) → HearsOn old new lines left
-  hears_first line left parts p = record { passed = line ∷ []; parts = parts; passes = p }
-
-  pub hears_more : (middle : Auditor) (left rest : List RunLine) (line : RunLine) → left ≡ line ∷ rest → HearsOn old middle lines left → PassesLines middle new (line ∷ [])
-      → HearsOn old new lines rest
-  hears_more middle left rest line next h p = record {
-    passed = h.passed ++ line ∷ [];
-    parts = h.parts ∙ (ap (λ (ls : List RunLine). h.passed ++ ls) next ∙ sym (append_assoc h.passed (line ∷ []) rest));
-    passes = passes_then old middle new h.passed (line ∷ []) h.passes p;
-  }
-
-  -- it stops at the next
-  pub hears_stop : (middle : Auditor) (left rest : List RunLine) (line : RunLine) → left ≡ line ∷ rest → HearsOn old middle lines left → StopsAtLine middle new [] line
-      → StopsAmong (StopsAtLine old new) lines
-  hears_stop middle left rest line next h s = record {
-    before = h.passed;
-    at = line;
-    behind = rest;
-    parts = h.parts ∙ ap (λ (ls : List RunLine). h.passed ++ ls) next;
-    stopped = subst (λ (ls : List RunLine). StopsAtLine old new ls line) (append-nil h.passed) (stops_later old middle new h.passed [] h.passes line s);
-  }
-
-  -- none is left
-  pub hears_all : (left : List RunLine) → left ≡ [] → HearsOn old new lines left → PassesLines old new lines
-  hears_all left none h =
-      subst (λ (ls : List RunLine). PassesLines old new ls) (sym (h.parts ∙ (ap (λ (ls : List RunLine). h.passed ++ ls) none ∙ append-nil h.passed))) h.passes
-
-  -- it stops at the first
-  pub stops_first : (line : RunLine) (left : List RunLine) → lines ≡ line ∷ left → StopsAtLine old new [] line → StopsAmong (StopsAtLine old new) lines
-  stops_first line left parts s = record { before = []; at = line; behind = left; parts = parts; stopped = s }

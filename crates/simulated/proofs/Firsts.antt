@@ -6,17 +6,13 @@ use Rattle.std.proofs.lemmas.Option.{slice_get-get_or}
 use Rattle.lemmas.proofs.Members.{slice_get_left}
 use Rattle.cluster_types.specs.declared.cluster.Cluster.{Cluster}
 use Rattle.cluster_types.specs.declared.journal.Event.{Event}
-use Rattle.cluster_types.specs.declared.states.NodeState.TheVariants.{Online, Offline, Unclean}
-use Rattle.cluster_types.specs.AnswersThatApply.{is_joined_sign}
 use Rattle.cluster_types.specs.CellStates.{last_outcome}
-use Rattle.cluster_types.specs.Journals.{NodeSign, joined, went_down, was_lost, was_fenced, last_sign}
+use Rattle.cluster_types.specs.Journals.{last_sign}
 use Rattle.cluster_types.specs.May.{may_be_running, may_be_promoted}
-use Rattle.cluster_types.specs.NodeStates.{state_by}
 use Rattle.cluster_types.proofs.TableCells.{same_place}
 use Rattle.simulated.specs.declared.real.Real.{Real}
 use Rattle.simulated.specs.declared.real.Real.TheVariants as real
 use Rattle.simulated.specs.declared.real.Standing.{Standing}
-use Rattle.simulated.specs.declared.real.Standing.TheVariants as standing
 use Rattle.cases.specs.Draws.{state_after}
 use Rattle.simulated.specs.KeptReality.{ListsCells, ListsNodes, ShowsWorld, reality}
 use Rattle.simulated.specs.RealWorlds.{Cells, first_real, first_world, is_rising, standing_by}
@@ -29,9 +25,6 @@ module _ {X : Type 0} (xs : List X) (x : X) where
   new_found i is = slice_get-get_or (xs ++ x ∷ []) i x (omega (arith, is, length-append xs (x ∷ []))) ∙ ap Some (get_or_push xs x x i is)
 
 module _ (c : Cluster) where
-  pub filled-none : (cells : Cells) → IsFilled c [] cells
-  filled-none cells = record { each = λ r n l m low. absurd (omega arith) }
-
   pub filled-push : (kept : List Real) (cells : Cells) (leaf node : ℕ) (x : Real) → length kept ≡ leaf * length c.nodes + node → node < length c.nodes
       → x ≡ cells leaf node → IsFilled c kept cells → IsFilled c (kept ++ x ∷ []) cells
   filled-push kept cells leaf node x len has_node is f =
@@ -51,47 +44,6 @@ module _ (c : Cluster) where
   pub holds-filled : (kept : List Real) (cells : Cells) → length kept ≡ length c.leaves * length c.nodes → IsFilled c kept cells → ListsCells c kept cells
   holds-filled kept cells full f = record { each = λ r n l m. f.each r n l m (place_within c (length kept) r n full l m) }
 
-  -- how a node stands, by the last that is shown of it
-  pub not_joined_lost : (n : ℕ) (es : List Event) (s : Option NodeSign) → is_joined_sign s ≡ false → state_by c n es s ≡ Unclean → standing.Lost ≡ standing_by c s
-  not_joined_lost n es None h e = cc
-  not_joined_lost n es (Some joined) h e = cc
-  not_joined_lost n es (Some went_down) h e = cc
-  not_joined_lost n es (Some was_fenced) h e = cc
-  not_joined_lost n es (Some was_lost) h e = on c.properties.fencing e
-    where
-      on : (t : Bool) → (if t then Unclean else Offline) ≡ Unclean → standing.Lost ≡ (if t then standing.Lost else standing.Off)
-      on true i = refl
-      on false i = cc
-
-  pub not_joined_offline : (n : ℕ) (es : List Event) (s : Option NodeSign) → is_joined_sign s ≡ false → state_by c n es s ≡ Offline → standing.Off ≡ standing_by c s
-  not_joined_offline n es None h e = refl
-  not_joined_offline n es (Some joined) h e = cc
-  not_joined_offline n es (Some went_down) h e = refl
-  not_joined_offline n es (Some was_fenced) h e = refl
-  not_joined_offline n es (Some was_lost) h e = on c.properties.fencing e
-    where
-      on : (t : Bool) → (if t then Unclean else Offline) ≡ Offline → standing.Off ≡ (if t then standing.Lost else standing.Off)
-      on true i = cc
-      on false i = refl
-
-  pub not_joined_online : (n : ℕ) (es : List Event) (s : Option NodeSign) → is_joined_sign s ≡ false → state_by c n es s ≡ Online → standing.Off ≡ standing_by c s
-  not_joined_online n es None h e = cc
-  not_joined_online n es (Some joined) h e = cc
-  not_joined_online n es (Some went_down) h e = cc
-  not_joined_online n es (Some was_fenced) h e = cc
-  not_joined_online n es (Some was_lost) h e = on c.properties.fencing e
-    where
-      on : (t : Bool) → (if t then Unclean else Offline) ≡ Online → standing.Off ≡ (if t then standing.Lost else standing.Off)
-      on true i = cc
-      on false i = cc
-
-  pub has_joined : (s : Option NodeSign) → is_joined_sign s ≡ true → standing.Up ≡ standing_by c s
-  has_joined None h = cc
-  has_joined (Some joined) h = refl
-  has_joined (Some went_down) h = cc
-  has_joined (Some was_lost) h = cc
-  has_joined (Some was_fenced) h = cc
-
 -- how the nodes stand, with one more
 pub nodes-push : (kept : List Standing) (held : ℕ → Standing) (count : ℕ) (x : Standing) → length kept ≡ count → x ≡ held count → ListsNodes count kept held
     → ListsNodes (count + 1) (kept ++ x ∷ []) held
@@ -100,14 +52,6 @@ nodes-push kept held count x len is h n low = on (n == count) refl
     on : (last : Bool) → (n == count) ≡ last → slice_get (kept ++ x ∷ []) n ≡ Some (held n)
     on true e = let same : n ≡ count = eqb-true n count e in rw same (new_found kept x count len ∙ ap Some is)
     on false e = let earlier : n < length kept = grind arith in slice_get_left kept (x ∷ []) n earlier ∙ h n (omega (arith, earlier, len))
-
-pub nothing_heard : {X : Type 0} (o : Option X) → is_some o ≡ false → is_none o ≡ true
-nothing_heard None h = refl
-nothing_heard (Some x) h = cc
-
-pub something_heard : {X : Type 0} (o : Option X) → is_some o ≡ true → is_none o ≡ false
-something_heard None h = cc
-something_heard (Some x) h = refl
 
 -- nothing comes up at first
 never_rising : (c : Cluster) (es : List Event) (r n : ℕ) → first_real c es r n ≡ real.Rising → ⊥

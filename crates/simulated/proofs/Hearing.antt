@@ -46,14 +46,6 @@ module _ (c : Cluster) where
         split r n low true false t s = cc
         split r n low false true t s = cc
 
-    -- of one that isn't there
-    pub said-no_leaf : length c.leaves ≤ leaf → IsSaidOf c (λ r n. is_same_cell r n leaf node) x heard heard
-    said-no_leaf past = said-none (λ r n. is_same_cell r n leaf node) x heard (λ r n l m. let other : (leaf == r) ≡ false = grind arith in rw other refl)
-
-    pub said-no_node : length c.nodes ≤ node → IsSaidOf c (λ r n. is_same_cell r n leaf node) x heard heard
-    said-no_node past =
-        said-none (λ r n. is_same_cell r n leaf node) x heard (λ r n l m. let other : (node == n) ≡ false = grind arith in rw other (and-false (leaf == r)))
-
   -- of some, and then of others
   pub said-more : (first later all : ℕ → ℕ → Bool) (x : Bool) (old mid new : List Bool) → IsSaidOf c first x old mid → IsSaidOf c later x mid new
       → ((r n : ℕ) → r < length c.leaves → all r n ≡ (first r n || later r n)) → IsSaidOf c all x old new
@@ -91,19 +83,6 @@ module _ (c : Cluster) where
   hears-still es e heard no_reset no_outcome h =
       hears-said es e (λ r n. false) false heard heard (said-none (λ r n. false) false heard (λ r n l m. refl)) (λ r n was. rw (no_reset r n, no_outcome r n) (sym (or-false was)))
       h
-
-  -- before the first event nothing was heard
-  pub hears-nothing : (heard : List Bool) → heard ≡ replicate (length c.leaves * length c.nodes) false → HearsOutcomes c [] heard
-  hears-nothing heard is = record {
-    full = ap length is ∙ length-replicate (length c.leaves * length c.nodes) false;
-    each = λ r n l m.
-        let low = place_within (length c.leaves * length c.nodes) r n refl l m in
-        ap (λ xs. slice_get xs (r * length c.nodes + n)) is ∙ found (length c.leaves * length c.nodes) (r * length c.nodes + n) low;
-  }
-    where
-      found : (count place : ℕ) → place < count → slice_get (replicate count false) place ≡ Some false
-      found count place low =
-          slice_get-get_or (replicate count false) place false (omega (arith, low, length-replicate count false)) ∙ ap Some (get_or-replicate count place false false low)
 
 -- what an outcome that counts, or the end of what was heard, changes
 pub forgets : (t was : Bool) → (if t then false else was) ≡ (not t && (was || false))

@@ -151,15 +151,6 @@ module _ (c : Cluster) (leaf node : ℕ) (held : Cells) where
       other real.Started e = refl
       other real.Promoted e = refl
 
-pub all_calm : (c : Cluster) (held : Cells) → IsAlone c None held → (r n : ℕ) → r < length c.leaves → n < length c.nodes → held r n ≡ risen (held r n)
-all_calm c held alone r n l m = other (held r n) refl
-  where
-    other : (x : Real) → held r n ≡ x → x ≡ risen x
-    other real.Off e = refl
-    other real.Rising e = let no = alone r n l m e in cc
-    other real.Started e = refl
-    other real.Promoted e = refl
-
 pub is_promoted_found : (x : Real) → is_really_promoted x ≡ true → real.Started ≡ demoted x
 is_promoted_found real.Off h = cc
 is_promoted_found real.Rising h = cc
@@ -189,14 +180,6 @@ something_found real.Off h = cc
 something_found real.Rising h = refl
 something_found real.Started h = refl
 something_found real.Promoted h = refl
-
--- a change to the same leaves a cell
-pub same_cell_stays : (leaf node : ℕ) (held : Cells) (r n : ℕ) → held r n ≡ with_changed_cell leaf node (λ x. x) held r n
-same_cell_stays leaf node held r n = on (is_same_cell r n leaf node)
-  where
-    on : (t : Bool) → held r n ≡ (if t then held r n else held r n)
-    on true = refl
-    on false = refl
 
 -- what an action makes of the cells lets none come up
 module _ (c : Cluster) (held : Cells) (r n : ℕ) where

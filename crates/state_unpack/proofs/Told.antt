@@ -7,14 +7,11 @@ use Rattle.std.specs.Option.{option_map, option_map_or}
 use Rattle.std.proofs.lemmas.Bool.{and_parts}
 use Rattle.cluster_types.specs.declared.cluster.Cluster.{Cluster}
 use Rattle.cluster_types.specs.declared.journal.Event.{Event}
-use Rattle.cluster_types.specs.declared.leaf.Monitor.{Monitor}
 use Rattle.cluster_types.specs.Cells.{is_same_cell}
-use Rattle.cluster_types.specs.CellStates.{is_monitor_running}
-use Rattle.cluster_types.specs.Fields.{monitors}
 use Rattle.cluster_types.proofs.TableCells.{ordered, same_place, get-at, same_cell}
 use Rattle.state_unpack.specs.declared.facts.Facts.{Facts}
-use Rattle.state_unpack.specs.Facts.{facts_of, monitor_runs}
-use Rattle.state_unpack.specs.Inner.Facts.{facts_after, no_facts}
+use Rattle.state_unpack.specs.Facts.{facts_of}
+use Rattle.state_unpack.specs.Inner.Facts.{facts_after}
 use Rattle.state_unpack.specs.KeptCells.{IsFull, cell_in, KeepsFacts}
 use Rattle.state_unpack.specs.Inner.ToldCells.{TellsEvent}
 use Rattle.state_unpack.specs.Inner.Touching.{touches}
@@ -53,31 +50,6 @@ module _ (c : Cluster) (e : Event) where
         split r n low true false t s = cc
         split r n low false true t s = cc
 
-  -- no cell was
-  pub tells-none : (touched : ℕ → ℕ → Bool) (cells : List Facts) → ((r n : ℕ) → touched r n ≡ false) → TellsEvent c e touched cells cells
-  tells-none touched cells none = record { len = refl; told = λ r n h k. rw none refl }
-
-  -- the same cells, said otherwise
-  pub tells-as : (touched all : ℕ → ℕ → Bool) (old new : List Facts) → TellsEvent c e touched old new
-      → ((r n : ℕ) → r < length c.leaves → n < length c.nodes → all r n ≡ touched r n) → TellsEvent c e all old new
-  tells-as touched all old new a is = record { len = a.len; told = λ r n h k. a.told r n h k ∙ rw (is r n h k) refl }
-
-  -- some were, and then others
-  pub tells-more : (first then_too all : ℕ → ℕ → Bool) (old mid new : List Facts) → TellsEvent c e first old mid → TellsEvent c e then_too mid new
-      → ((r n : ℕ) → r < length c.leaves → first r n ≡ true → then_too r n ≡ false) → ((r n : ℕ) → r < length c.leaves → all r n ≡ (first r n || then_too r n)) → TellsEvent c e all old new
-  tells-more first then_too all old mid new a b once is = record {
-    len = b.len ∙ a.len;
-    told = λ r n h k. b.told r n h k ∙ split r n h k (first r n) (then_too r n) refl refl;
-  }
-    where
-      split : (r n : ℕ) → r < length c.leaves → n < length c.nodes → (x y : Bool) → first r n ≡ x → then_too r n ≡ y
-          → (if then_too r n then option_map (λ facts. facts_after c r n facts e) (cell_in c mid r n) else cell_in c mid r n)
-          ≡ (if all r n then option_map (λ facts. facts_after c r n facts e) (cell_in c old r n) else cell_in c old r n)
-      split r n h k true true f t = let never = once r n h f in cc
-      split r n h k true false f t = let here : all r n ≡ true = is r n h ∙ rw f refl in rw (t, here) (a.told r n h k ∙ rw f refl)
-      split r n h k false true f t = let here : all r n ≡ true = is r n h ∙ rw (f, t) refl in rw (t, here) (ap (option_map (λ facts. facts_after c r n facts e)) (a.told r n h k ∙ rw f refl))
-      split r n h k false false f t = let here : all r n ≡ false = is r n h ∙ rw (f, t) refl in rw (t, here) (a.told r n h k ∙ rw f refl)
-
   -- so what is kept is what the events tell with this one
   pub keeps-more : (es : List Event) (old new : List Facts) → KeepsFacts c es old → TellsEvent c e (λ r n. touches r n e) old new → KeepsFacts c (es ++ e ∷ []) new
   keeps-more es old new k t = record {
@@ -115,39 +87,3 @@ leaf_by_leaf r n leaf node = split (node == n) refl
         none false true false = refl
         none false false true = refl
         none false false false = refl
-
-pub each_leaf_once : (r n leaf node : ℕ) → (nat_lt r leaf && node == n) ≡ true → is_same_cell r n leaf node ≡ false
-each_leaf_once r n leaf node h =
-    let parts = and_parts (nat_lt r leaf) (node == n) h in
-    let other : (leaf == r) ≡ false = let low = parts.0 in grind (arith, nat_tests) in
-    rw other refl
-
--- two cells of a leaf
-pub each_node_once : (r n leaf source target : ℕ) → (target == source) ≡ false → is_same_cell r n leaf source ≡ true → is_same_cell r n leaf target ≡ false
-each_node_once r n leaf source target differ h =
-    let parts = and_parts (leaf == r) (source == n) h in
-    let here = eqb-true source n parts.1 in
-    let other : (target == n) ≡ false = ap (λ m. target == m) (sym here) ∙ differ in
-    rw (parts.0, other) refl
-
--- no event tells anything
-nothing : (c : Cluster) (r n : ℕ) → facts_of c r n [] ≡ no_facts
-nothing c r n = rw (stopped 0, stopped 1, stopped 2, stopped 3, stopped 4, stopped 5, stopped 6, stopped 7) refl
-  where
-    stopped : (i : ℕ) → monitor_runs c r n [] i ≡ false
-    stopped i = split (slice_get (monitors c r) i)
-      where
-        split : (found : Option Monitor) → option_map_or (λ (m : Monitor). is_monitor_running r n m.interval_ms []) found false ≡ false
-        split None = refl
-        split (Some m) = refl
-
-some_of_many : {X : Type 0} (k i : ℕ) (x : X) → i < k → slice_get (replicate k x) i ≡ Some x
-some_of_many k i x low = slice_get-get_or (replicate k x) i x (omega (arith, low, length-replicate k x)) ∙ ap Some (get_or-replicate k i x x low)
-
-pub keeps-none : (c : Cluster) (cells : List Facts) → cells ≡ replicate (length c.leaves * length c.nodes) no_facts → KeepsFacts c [] cells
-keeps-none c cells is = record {
-  full = ap length is ∙ length-replicate (length c.leaves * length c.nodes) no_facts;
-  told = λ r n h k.
-      let low : r * length c.nodes + n < length c.leaves * length c.nodes = let up = ordered (length c.nodes) r n (length c.leaves) 0 k h in omega (arith, up) in
-      ap (λ xs. slice_get xs (r * length c.nodes + n)) is ∙ (some_of_many _ _ no_facts low ∙ ap Some (sym (nothing c r n)));
-}

@@ -3,7 +3,7 @@
 ghost use Rattle.std.specs.Prelude.{◌≡◌, ◌==◌};
 ghost use Rattle.std.specs.List.{list_any};
 ghost use Rattle.cluster_types.specs.Outcomes as outcomes;
-ghost use Rattle.state_unpack.specs.Inner.LeafFields.{op_fail_of};
+ghost use Rattle.state_unpack.specs.Inner.LeafFields.{on_fail_of_leaf};
 
 use cluster_types::exit_codes::{
     DEGRADED, DEGRADED_PROMOTED, NOT_RUNNING, RUNNING_PROMOTED, SUCCESS,
@@ -75,8 +75,8 @@ fn on_fail_of_monitor(monitors: &[Monitor], interval_ms: u32) -> OnFail
     OnFail::Restart
 }
 
-fn op_fail_of(leaf: &Leaf, op: Op, interval_ms: u32) -> OnFail
-    ensures { result ≡ op_fail_of leaf.now op interval_ms }
+fn on_fail_of_leaf(leaf: &Leaf, op: Op, interval_ms: u32) -> OnFail
+    ensures { result ≡ on_fail_of_leaf leaf.now op interval_ms }
 {
     match op {
         Op::Start => leaf.start_fail,
@@ -91,7 +91,7 @@ fn on_fail_of_op(cluster: &Cluster, leaf: LeafId, op: Op, interval_ms: u32) -> O
     ensures { result ≡ outcomes.on_fail_of_op cluster.now leaf op interval_ms }
 {
     match cluster.leaves.as_slice().get(leaf as usize) {
-        Some(leaf) => op_fail_of(leaf, op, interval_ms),
+        Some(leaf) => on_fail_of_leaf(leaf, op, interval_ms),
         None => OnFail::Restart,
     }
 }

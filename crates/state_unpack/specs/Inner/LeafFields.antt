@@ -7,9 +7,9 @@ use Rattle.cluster_types.specs.declared.leaf.Op.TheVariants.{Start, Stop, Promot
 use Rattle.cluster_types.specs.Outcomes.{on_fail_of_monitor}
 
 -- what the failure of an operation of the leaf leads to
-abbrev pub op_fail_of : Leaf → Op → ℕ → OnFail
-op_fail_of leaf Start interval = leaf.start_fail
-op_fail_of leaf Stop interval = leaf.stop_fail
-op_fail_of leaf Promote interval = leaf.promote_fail
-op_fail_of leaf Demote interval = leaf.demote_fail
-op_fail_of leaf Monitor interval = on_fail_of_monitor leaf.monitors interval
+abbrev pub on_fail_of_leaf : Leaf → Op → ℕ → OnFail
+on_fail_of_leaf leaf Start interval = leaf.start_fail
+on_fail_of_leaf leaf Stop interval = leaf.stop_fail
+on_fail_of_leaf leaf Promote interval = leaf.promote_fail
+on_fail_of_leaf leaf Demote interval = leaf.demote_fail
+on_fail_of_leaf leaf Monitor interval = on_fail_of_monitor leaf.monitors interval
