@@ -10,7 +10,7 @@ use std::io::{Read, Write};
 const TRIES: u32 = 1000;
 
 /// A reader of std as a source, which tells nothing of the bytes still to come. An interrupted call
-/// is made again, up to 1,000 calls in all; past those, and at any other error, the source fails.
+/// is made again, until 1,000 were interrupted; then, and at any other error, the source fails.
 #[derive(Drop)]
 pub struct StdSource<R: Read> {
     calls: ReaderCalls<R>,
@@ -98,8 +98,8 @@ impl<R: Read> Source for StdSource<R> {
 }
 
 /// A writer of std as a sink, which tells nothing of the bytes written. An interrupted call is made
-/// again, up to 1,000 calls in all; past those, at any other error, and where the writer takes 0
-/// bytes, the sink fails.
+/// again, until 1,000 were interrupted; then, at any other error, and where the writer takes 0 bytes,
+/// the sink fails.
 #[derive(Drop)]
 pub struct StdSink<W: Write> {
     calls: WriterCalls<W>,

@@ -1,4 +1,4 @@
--- How many nodes, leaves and rules statements have (their limits are rules of this project).
+-- How many rules statements have (their limit is a rule of this project).
 use Rattle.std.specs.Prelude.{ℕ, ◌+◌, ◌-◌, length}
 use Rattle.crm_parse.specs.declared.form.Form.{Form}
 use Rattle.crm_parse.specs.declared.form.Form.TheVariants as form

@@ -24,7 +24,7 @@ takes_out fencing n (Lost node) = node == n && not fencing
 takes_out fencing n (Ended k (Fence node) o moment) = node == n && is_code_among (success ∷ []) o
 takes_out fencing n _ = false
 
--- from this event on the leaf may run on the node: the node joined; a start, a promote, a demote or the taking in of a migration began or ended, however it
+-- what lets a leaf run on the node, unless it is ignored: the node joined; a start, a promote, a demote or the taking in of a migration began or ended, however it
 -- ended; the sending of a migration to the node began; or a probe or a monitor ended and doesn't close the cell
 abbrev pub opens_cell : ℕ → ℕ → Event → Bool
 opens_cell r n (Up node) = node == n

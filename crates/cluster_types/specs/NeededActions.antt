@@ -79,7 +79,7 @@ module _ (c : Cluster) (es : List Event) (targets : Targets) where
   steps_at r n cycled = if is_pinned c es r then [] else steps_of (cell_state c r n es) (targets r n) cycled
 
   -- a symmetrical mandatory order of starts or promotes has its then, on node n, wait for what is done to its first on node m, in
-  -- scope. The then is in its role on node n, in a cell that can be cycled
+  -- scope. The then is to have its role on node n, in a cell that can be cycled
   pub record OrderCanCycle (o : Order) (n m : ℕ) : Type 0 where
     pub present : Contains c.orders o
     pub mandatory : o.kind ≡ kind.Mandatory

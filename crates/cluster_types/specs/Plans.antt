@@ -1,7 +1,8 @@
 -- The plan for a journal: where everything goes, what has to be done for it, and in which order (Pacemaker Administration, "Transitions").
-use Rattle.std.specs.Prelude.{◌≡◌, ℕ, ◌*◌, Bool, false, Option, Some, List, [], ◌∷◌, length, map, slice_get, count_by, sum_by, ◌+◌, ◌==◌, ◌||◌}
+use Rattle.std.specs.Prelude.{◌≡◌, ◌≤◌, ℕ, ◌*◌, Bool, false, Option, Some, List, [], ◌∷◌, length, map, slice_get, count_by, sum_by, ◌+◌, ◌==◌, ◌||◌}
 use Rattle.std.specs.List.{range_with_len}
 use Rattle.cluster_types.specs.declared.cluster.Cluster.{Cluster}
+use Rattle.cluster_types.specs.declared.graph_edges.Edges.{Edges}
 use Rattle.cluster_types.specs.declared.journal.Action.{Action}
 use Rattle.cluster_types.specs.declared.journal.Action.TheVariants.{Fence, Probe, Operation, MigrateTo, MigrateFrom}
 use Rattle.cluster_types.specs.declared.journal.Event.{Event}
@@ -69,11 +70,6 @@ transition_of c es actions = record {
 abbrev pub transition_on : Cluster → GraphOf → List Event → Transition
 transition_on c g es = record { cluster = c; actions = g.actions; precedes = is_before g; planned_at = es }
 
--- the graph has the actions of a plan, and of two numbers the one comes before the other just when its action must precede
-pub record CarriesOut (c : Cluster) (es : List Event) (promotions : List Promotion) (placed : Placed) (g : GraphOf) : Type 0 where
-  pub plan : IsPlan c es promotions placed g.actions
-  pub pairs : (j k : ℕ) → is_before g j k ≡ precedes_by_number c g.actions (numbered g.actions j) (numbered g.actions k)
-
 -- the action is of this leaf or of that one
 abbrev pub is_of_either : ℕ → ℕ → Action → Bool
 is_of_either r s (Fence n) = false
@@ -89,3 +85,24 @@ most_edges c actions =
     8 * length actions
     + sum_by (λ (col : Colocation). 4 * count_by (is_of_either col.dependent col.primary) actions) c.colocations
     + sum_by (λ (o : Order). 4 * count_by (is_of_either o.first o.then_leaf) actions) c.orders
+
+-- how many gates there are for what hangs on no rule: four for each leaf on each node, three for each leaf, and one (rule of this project)
+abbrev pub first_gates : Cluster → ℕ
+first_gates c = 1 + 3 * length c.leaves + 4 * (length c.nodes * length c.leaves)
+
+-- how many positions the edges between some actions may have: as many as there may be edges, and these gates; for each colocation two more for each of 256
+-- nodes, and for each order four (rule of this project)
+abbrev pub most_positions : Cluster → List Action → ℕ
+most_positions c actions =
+    most_edges c actions + first_gates c + 512 * length c.colocations + 1024 * length c.orders
+
+-- the edges and their positions are no more than that
+pub record AreFewEdges (c : Cluster) (actions : List Action) (edges : Edges) : Type 0 where
+  pub list : length edges.list ≤ most_edges c actions
+  pub positions : edges.positions ≤ most_positions c actions
+
+-- the graph has the actions of a plan and few edges, and of two numbers the one comes before the other just when its action must precede
+pub record CarriesOut (c : Cluster) (es : List Event) (promotions : List Promotion) (placed : Placed) (g : GraphOf) : Type 0 where
+  pub plan : IsPlan c es promotions placed g.actions
+  pub pairs : (j k : ℕ) → is_before g j k ≡ precedes_by_number c g.actions (numbered g.actions j) (numbered g.actions k)
+  pub few : AreFewEdges c g.actions g.edges

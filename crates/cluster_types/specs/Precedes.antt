@@ -1,5 +1,5 @@
--- Which action must have succeeded before which may begin, case by case. Each case names the section of Pacemaker Explained that it follows; what none
--- is named for is a rule of this project. `must_precede` computes the same (`precedence_is_computed`).
+-- Which action must have succeeded before which may begin, case by case. A case names the section of Pacemaker Explained that it follows; one that names
+-- none is a rule of this project. `must_precede` computes the same (`precedence_is_computed`).
 use Rattle.std.specs.Prelude.{◌≡◌, ◌≢◌, ◌⊎◌, ◌<◌, ◌&&◌, ℕ, Bool, true, false, List, length, Contains}
 use Rattle.cluster_types.specs.declared.cluster.Cluster.{Cluster}
 use Rattle.cluster_types.specs.declared.journal.Action.{Action}
@@ -32,7 +32,7 @@ pub data CountsAsLater (actions : List Action) : Op → Action → ℕ → ℕ �
   later_sent_to : (r source target : ℕ) → CountsAsLater actions op.Start (MigrateTo r source target) r target
   later_sent_off : (r source target : ℕ) → CountsAsLater actions op.Stop (MigrateTo r source target) r source
 
--- the operation that gives a role. What takes the role away are its `takers`
+-- the operation that gives a role, as `role_given` says which role an operation gives. What takes the role away are its `takers`
 abbrev pub giver : Role → Op
 giver role.Started = op.Start
 giver role.Promoted = op.Promote
@@ -94,7 +94,8 @@ module _ (c : Cluster) (actions : List Action) (is_earlier : Action → Action �
     -- what an order puts first comes first, in its scope ("Specifying the Order in which Resources Should Start/Stop", kinds Mandatory and Optional)
     order : (o : Order) (p q : Op) (r s n m : ℕ) (x y : Action) → Contains c.orders o → is_serialize o.kind ≡ false → PutsFirst o p r q s
         → CountsAsFirst p x r n → CountsAsLater actions q y s m → is_in_scope o n m ≡ true → Precedes x y
-    -- where two operations must not go on at once, the lower number comes first (the same section, kind Serialize)
+    -- of two operations of an order's leaves that must not go on at once, whatever its words, the lower number comes first (the same section, kind
+    -- Serialize)
     serialize : (o : Order) (p q : Op) (r s n m : ℕ) (x y : Action) → Contains c.orders o → is_serialize o.kind ≡ true → AreEnds o r s
         → p ≢ op.Monitor → q ≢ op.Monitor → IsOperation p x r n → IsOperation q y s m → is_in_scope o n m ≡ true → is_earlier x y ≡ true → Precedes x y
     -- a migration has its turns ("Migrating Resources")

@@ -42,7 +42,7 @@ module _ (c : Cluster) (es : List Event) (table : Targets) where
       else (if not (may_start c es) then Some none.NoQuorum
       else (if is_chosen_nowhere r then Some none.NoNode else None)))))
 
-  -- the colocation holds the leaf back on the node: its primary has no target there that isn't held
+  -- the colocation holds the leaf back on the node: its primary has no target there, in its role, that isn't held
   pub record IsHeldByColocation (r n : ℕ) (col : Colocation) : Type 0 where
     pub mandatory : is_mandatory col ≡ true
     pub dependent : is_dependent (Place r) col ≡ true

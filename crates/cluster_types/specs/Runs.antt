@@ -40,7 +40,7 @@ module _ (c : Cluster) (promotions : List Promotion) (whole : Bool) where
     -- it goes a step
     goes : (k : ℕ) (t : Transition) (since events : List Event) (rest left : Option (List Answer)) → StepsOn t whole since rest events left
         → RunsOn (amid k t since) rest (flat_map event_lines events) (amid k t (since ++ events)) left
-    -- it ends with all done
+    -- it ends, and nothing aborted
     completes : (k : ℕ) (t : Transition) (since : List Event) (rest : Option (List Answer)) → HasEnded t since → has_aborted t since ≡ false
         → RunsOn (amid k t since) rest (line.Complete k ∷ []) (idle k (journal t since)) rest
     -- it ends aborted, and the next is due

@@ -37,7 +37,7 @@ silent_code _ = success
 abbrev pub silent_end : Cluster → List Event → List (ℕ × Action) → List Event
 silent_end c es in_flight = option_map_or (λ (p : ℕ × Action). end_event c es in_flight (Code (silent_code p.1)) p ∷ []) (slice_get in_flight 0) []
 
--- the outcome is a success: an expected exit code, or one that is ignored
+-- the outcome is a success: an expected exit code, or an outcome that is ignored
 abbrev pub is_success : Cluster → Action → Outcome → Bool
 is_success c a o = is_code_among (expected_codes a) o || is_ignored c a o
 

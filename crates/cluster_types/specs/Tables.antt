@@ -36,7 +36,7 @@ abbrev pub holds_role : Targets → ℕ → Role → ℕ → Bool
 holds_role table r role.Started n = is_somewhere (table r n)
 holds_role table r role.Promoted n = is_promoted_target (table r n)
 
--- the same, with this target at one cell
+-- the table with this target at one cell
 abbrev pub with_cell : Targets → ℕ → ℕ → Target → Targets
 with_cell table r n goal s m = if s == r && m == n then goal else table s m
 

@@ -84,7 +84,7 @@ module _ (c : Cluster) (es : List Event) where
       map (λ (l : Location). l.score) (filter (λ l. l.leaf == r && l.node == n && passes l.role) c.locations)
       ++ map (λ (rl : RuleLocation). rl.score) (filter (λ rl. rl.leaf == r && passes rl.role && rule_holds rl n) c.rule_locations)
 
-  -- some location, of whatever role and score, names the leaf and the node
+  -- some location of the leaf, of whatever role and score, names the node, or has a rule that holds there
   abbrev pub is_located : ℕ → ℕ → Bool
   is_located r n =
       list_any (λ (l : Location). l.leaf == r && l.node == n) c.locations

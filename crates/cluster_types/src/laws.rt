@@ -69,8 +69,7 @@ pub fn rising_edges_make_a_graph()
         → ((x y : ℕ) → x < length g.actions → y < length g.actions → height x < height y → x < y) → IsGraph g }
 {}
 
-/// The held cells are the least set that is closed under the rules for them: it is closed, and each closed set has all its cells. So there is one
-/// such set.
+/// The held cells are the least set that is closed under the rules for them: it is closed, and each closed set that a test tells has all its cells.
 pub fn held_is_the_least_set()
     ensures closed { (c : Cluster) (events : List Event) (table : Targets) → IsClosedUnderHolding c events table (Held c events table) }
     ensures least { (c : Cluster) (events : List Event) (table : Targets) (set : DecisionOf → ℕ → Bool)

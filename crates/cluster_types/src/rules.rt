@@ -58,11 +58,11 @@ impl Colocation {
 /// How strictly an order holds (Pacemaker Explained, "kind").
 #[derive(Clone, Copy, Debug, PartialEq, Eq)]
 pub enum OrderKind {
-    /// The then can't run without the first.
+    /// It orders the two actions where both happen. Where both give a role, the then can't have its role without the first.
     Mandatory,
     /// It orders the two actions where both happen.
     Optional,
-    /// The two actions never happen at once, in either order.
+    /// No start, stop, promote or demote of the one happens while one of the other does, whatever the two actions are.
     Serialize,
 }
 
@@ -84,7 +84,7 @@ pub struct Order {
 }
 
 impl Order {
-    /// Whether the then can't run without the first.
+    /// Whether its kind is Mandatory.
     pub fn is_mandatory(&self) -> bool
         ensures { result ≡ precedence.is_mandatory_order self.now.kind }
     {

@@ -41,7 +41,7 @@ pub enum CellState {
 }
 
 impl CellState {
-    /// Whether the leaf runs there, or may.
+    /// Whether it is taken that the leaf runs there: what runs by its last outcome, and what has failed.
     pub fn is_active(self) -> bool
         ensures { result ≡ is_active self }
     {

@@ -85,7 +85,7 @@ abbrev pub is_serialize_word : KindWord → Bool
 is_serialize_word Serialize = true
 is_serialize_word _ = false
 
--- an order that only keeps two actions apart can't be symmetrical
+-- an order of kind Serialize can't be symmetrical
 abbrev pub symmetrical_as : KindWord → Bool → Result Bool ParseCause
 symmetrical_as Serialize true = Err Unsupported
 symmetrical_as _ both = Ok both

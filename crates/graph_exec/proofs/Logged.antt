@@ -10,7 +10,7 @@ use Rattle.cluster_types.specs.declared.cluster.Cluster.{Cluster}
 use Rattle.cluster_types.specs.declared.journal.Event.{Event}
 use Rattle.cluster_types.specs.Journals.{moment_of, seconds_of}
 use Rattle.cluster_types.specs.Steps.{aborts, is_from_outside}
-use Rattle.state_unpack.specs.Known.{Knowledge, Knows}
+use Rattle.state_unpack.specs.KeptKnowledge.{Knowledge, Knows}
 use Rattle.graph_exec.specs.Inner.Logs.{Reflects}
 
 module _ (c : Cluster) (events : List Event) (planned : ℕ) (known : Knowledge) (outside : ℕ) (abort : Option Event)

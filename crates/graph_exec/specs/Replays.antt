@@ -30,7 +30,7 @@ pub record Setting : Type 0 where
 abbrev pub setting : Cluster → List Promotion → Bool → Bool → Setting
 setting c promotions whole steady = record { cluster = c; promotions = promotions; whole = whole; steady = steady }
 
--- the source at a moment: the answers to come, and whether nothing more is said
+-- the source at a moment: the answers to come, and whether it never fails from now on
 pub record AnswersView : Type 0 where
   pub rest : Option (List Answer)
   pub over : Bool

@@ -101,7 +101,7 @@ module _ (c : Cluster) (journal : Journal) (reading : Reading) (left_then : List
     pub run : AsksForMore c journal results printed
 
   -- the call that writes what is held back where the run asks for an answer, or stands between two transitions. These answers were taken by then, and no
-  -- line behind them was asked for; or all answers were, and the line behind them that is refused was asked for too, if there is one
+  -- line behind them was asked for; or all answers were, and the line past the limit behind them was asked for too, if there is one
   pub record CallOfHeldBack : Type 0 where
     pub printed : List RunLine
     pub at : RunStanding

@@ -94,9 +94,10 @@ RestsBehind old new after lines bytes course.Reading = NoneOrLastSays old.cluste
 RestsBehind old new after lines bytes course.Ended = AllIsRead new.lines after
 RestsBehind old new after lines bytes (course.Stopped why times) = ⊥
 
--- some questions were answered
+-- some questions were answered. Whether the source of bytes has failed before stays
 pub record HasAnswered (old new : SourceState) (before after : Option (List ℕ)) : Type 0 where
   pub cluster_stays : new.cluster ≡ old.cluster
+  pub failed_stays : new.failed ≡ old.failed
   pub lines : List (List (List ℕ))
   pub given : List ResultLine
   pub bytes : List ℕ

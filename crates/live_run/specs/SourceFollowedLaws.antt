@@ -49,6 +49,7 @@ module _ (a b d : SourceState) (x y z : Option (List ℕ)) (p : HasAnswered a b 
   answered_then : HasAnswered b d y z → HasAnswered a d x z
   answered_then q = record {
     cluster_stays = q.cluster_stays ∙ p.cluster_stays;
+    failed_stays = q.failed_stays ∙ p.failed_stays;
     lines = p.lines ++ q.lines;
     given = p.given ++ q.given;
     bytes = p.bytes ++ q.bytes;

@@ -64,7 +64,7 @@ fn refused(fault: LexFault) -> HeadStop
     }
 }
 
-/// Takes the line into the text that was just handed out.
+/// Takes into the text the line that was just handed out. None where the head goes on behind it.
 fn take_line<S: Source>(
     reader: &LineReader<'_, S>,
     words: &mut WordBuf,

@@ -27,7 +27,7 @@ pub struct LineWriter<'c, 's, W: Sink> {
     cluster: &'c Cluster,
     sink: &'s mut W,
     held: &'s mut HeldText,
-    /// The next line.
+    /// The last line that was put.
     buf: LineBuf,
     ghost limits: { KeepsLimits cluster.now },
     ghost names: { HasShortNames cluster.now },
@@ -114,7 +114,7 @@ impl<'c, 's, W: Sink> LineWriter<'c, 's, W> {
         Ok(())
     }
 
-    /// All that is held back leaves: the run has no more lines, or they have to wait.
+    /// All that is held back leaves: the run has no more lines, or may have to wait for an answer.
     pub fn finish(&mut self) -> Result<(), WriteFault>
         ensures cluster { writer_cluster self.new ≡ writer_cluster self.old }
         ensures text { Puts result (writer_held self.old) (W.written (sink_of self.old)) (W.written (sink_of self.new)) }

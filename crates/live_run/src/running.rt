@@ -109,8 +109,8 @@ fn run_to_end<S: Source, W: Sink>(
     }
 }
 
-/// Carries out the run of a journal of a cluster over the answers that a source reads from lines, and writes each of its lines
-/// before the source of bytes is read again. Where an answer doesn't apply, the last line is `unexpected LINE` with the line of the answer; where the line
+/// Carries out the run of a journal of a cluster over the answers that a source reads from lines, and writes its lines.
+/// Where an answer doesn't apply, the last line is `unexpected LINE` with the line of the answer; where the line
 /// that is asked for isn't read, it is `refused LINE CAUSE`. After a failed write nothing more is read.
 ///
 /// It asks for a valid cluster, for a journal in order with nothing in flight, as a status gives it, for a moment below 2^40

@@ -9,7 +9,7 @@ use Rattle.cluster_types.specs.declared.graph_edges.Edges.{Edges}
 use Rattle.cluster_types.specs.declared.journal.Action.{Action}
 use Rattle.cluster_types.specs.declared.rules.Order.{Order}
 use Rattle.cluster_types.specs.Numbers.{is_earlier}
-use Rattle.cluster_types.specs.Plans.{is_of_either, most_edges}
+use Rattle.cluster_types.specs.Plans.{first_gates, is_of_either, most_edges, most_positions}
 use Rattle.cluster_types.specs.Graphs.{LeadsByGates}
 use Rattle.cluster_types.specs.Precedence.{is_serialize, is_serialized, must_precede}
 use Rattle.planner.specs.declared.precedence.sides.Join.{Join}
@@ -18,7 +18,7 @@ use Rattle.planner.specs.Inner.Gates.{edges_of_joins}
 use Rattle.planner.specs.Inner.Groups.{AddsGroup}
 use Rattle.planner.specs.Joins.{joins_of}
 use Rattle.planner.specs.Inner.Places.{places_of}
-use Rattle.planner.specs.PrecedenceEdges.{AreEdges, first_gates, most_positions}
+use Rattle.planner.specs.PrecedenceEdges.{AreEdges}
 use Rattle.planner.specs.Inner.Rooms.{Builds, rows_of_join, width_of_join}
 use Rattle.planner.specs.ActionNames.{IsActionWithin}
 use Rattle.planner.specs.Inner.Serials.{most_serial, serial_room}

@@ -10,7 +10,6 @@ use Rattle.cluster_types.specs.declared.states.States.{States}
 use Rattle.cluster_types.specs.Plans.{CarriesOut, IsPlan}
 use Rattle.cluster_types.specs.Rights.{rights_of}
 use Rattle.cluster_types.specs.UnpackedStates.{states_of}
-use Rattle.planner.specs.PrecedenceEdges.{AreFewEdges}
 
 -- some journal and promotion scores tell these states of the cluster
 pub record AreTold (c : Cluster) (states : States) : Type 0 where
@@ -24,9 +23,8 @@ pub record HasPlan (c : Cluster) (es : List Event) (promotions : List Promotion)
   pub actions : List Action
   pub is : IsPlan c es promotions placed actions
 
--- the plan has what the journal tells and what the cluster may do, and its graph carries out the plan for the journal by few edges
+-- the plan has what the journal tells and what the cluster may do, and its graph carries out the plan for the journal
 pub record IsPlanned (c : Cluster) (es : List Event) (promotions : List Promotion) (plan : Plan) : Type 0 where
   pub states : plan.states ≡ states_of c es promotions
   pub rights : plan.rights ≡ rights_of c es
   pub carries_out : CarriesOut c es promotions plan.placed plan.graph
-  pub few : AreFewEdges c plan.graph.actions plan.graph.edges

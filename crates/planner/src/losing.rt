@@ -4,7 +4,7 @@ ghost use Rattle.cluster_types.specs.NodeStates.{is_online_state};
 ghost use Rattle.cluster_types.specs.declared.journal.Event.TheVariants.{Lost};
 ghost use Rattle.cluster_types.specs.UnpackedStates.{states_of};
 ghost use Rattle.cluster_types.specs.Valid.{IsValid};
-ghost use Rattle.state_unpack.specs.Known.{Knows};
+ghost use Rattle.state_unpack.specs.KeptKnowledge.{Knows};
 ghost use Rattle.planner.specs.Losses.{IsLoss, AreAllLosses};
 
 use cluster_types::{Cluster, Event, Journal, Loss, NoMemory, NodeId, NodeState, Report, States};

@@ -5,12 +5,11 @@ ghost use Rattle.cluster_types.specs.declared.journal.Event.{Event as EventOf};
 ghost use Rattle.cluster_types.specs.Graphs.{is_before};
 ghost use Rattle.cluster_types.specs.NeededActions.{Needed};
 ghost use Rattle.cluster_types.specs.Numbers.{AreNeeded, AreNumbered};
-ghost use Rattle.cluster_types.specs.Plans.{precedes_by_number};
+ghost use Rattle.cluster_types.specs.Plans.{AreFewEdges, precedes_by_number};
 ghost use Rattle.cluster_types.specs.Steps.{numbered};
 ghost use Rattle.cluster_types.specs.Tables.{Targets};
 ghost use Rattle.cluster_types.specs.Valid.{IsValid};
 ghost use Rattle.planner.specs.PlannedActions.{AreOfSomePlan};
-ghost use Rattle.planner.specs.PrecedenceEdges.{AreFewEdges};
 
 use crate::by_number::in_number_order;
 use crate::edges;

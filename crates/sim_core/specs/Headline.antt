@@ -85,8 +85,8 @@ pub record IsOfHead (input : List ℕ) (Holds : Head → Coming → Type 0) : Ty
 abbrev pub IsTextOfOneSafeRun : LiveEnd → List ℕ → List ℕ → Type 0
 IsTextOfOneSafeRun how input text = IsOfHead input (λ head coming. IsOneSafeRun head coming how text)
 
--- with each status, the text that the input gets is that of its one run, which is safe: with 0 of the whole run; with 6, 5 and 7 of the run up to where it is
--- cut, with 6 and 5 the line behind it that says so. With 5 it may be the fault of the head alone, and with 7 nothing
+-- with each status, the text that the input gets is that of its one run, which is safe: with 0 of the whole run; with 6, 5 and 7 of the run up to where it
+-- ends early, with 6 and 5 the line behind it that says so. With 5 it may be the fault of the head alone, and with 7 nothing
 abbrev pub IsSafeOutput : List ℕ → Status → List ℕ → Type 0
 IsSafeOutput input Done text = IsTextOfOneSafeRun end.Done input text
 IsSafeOutput input Unexpected text = IsTextOfOneSafeRun end.Unexpected input text

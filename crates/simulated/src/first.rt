@@ -6,7 +6,7 @@ ghost use Rattle.cluster_types.specs.declared.journal.Event.{Event as EventOf};
 ghost use Rattle.cluster_types.specs.Journals.{last_sign, moment_of};
 ghost use Rattle.cluster_types.specs.Valid.{KeepsLimits};
 ghost use Rattle.state_unpack.specs.Knowledge.{has_few_monitors};
-ghost use Rattle.state_unpack.specs.Known.{Knows};
+ghost use Rattle.state_unpack.specs.KeptKnowledge.{Knows};
 ghost use Rattle.simulated.specs.KeptReality.{ListsCells, ListsNodes, ShowsWorld};
 ghost use Rattle.simulated.specs.RealWorlds as worlds;
 ghost use Rattle.simulated.specs.Inner.Firsts.{HearsOutcomes, IsFilled};

@@ -12,7 +12,7 @@ use Rattle.state_unpack.specs.declared.signs.Sign.{Sign}
 use Rattle.state_unpack.specs.Inner.CellsKept.{is_blamed, node_from, quorum_after, states_from}
 use Rattle.state_unpack.specs.Knowledge.{has_few_monitors}
 use Rattle.state_unpack.specs.Inner.ToldCells.{TellsEvent}
-use Rattle.state_unpack.specs.Known.{Knowledge, Knows, knowledge}
+use Rattle.state_unpack.specs.KeptKnowledge.{Knowledge, Knows, knowledge}
 use Rattle.state_unpack.specs.Signs.{ShowsSigns}
 use Rattle.state_unpack.specs.Inner.Touching.{touches}
 use Rattle.state_unpack.proofs.CellsKnown.{blamed-is, by-sign, cells-are, few-monitors, nodes-are, stops-are}

@@ -2,6 +2,6 @@ pub mod Inner
 pub mod Facts
 pub mod KeptCells
 pub mod Signs
-pub mod Known
+pub mod KeptKnowledge
 pub mod Tally
 pub mod Knowledge

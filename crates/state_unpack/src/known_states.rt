@@ -10,7 +10,7 @@ ghost use Rattle.cluster_types.specs.NodeStates.{node_state};
 ghost use Rattle.cluster_types.specs.UnpackedStates.{states_of};
 ghost use Rattle.cluster_types.specs.Valid.{KeepsLimits};
 ghost use Rattle.state_unpack.specs.Knowledge.{has_few_monitors};
-ghost use Rattle.state_unpack.specs.Known.{Knows};
+ghost use Rattle.state_unpack.specs.KeptKnowledge.{Knows};
 
 use crate::facts::Facts;
 use crate::nodes::{facts_or_none, node_from};
@@ -36,7 +36,7 @@ pub struct Known<'c> {
 }
 
 impl<'c> Model for Known<'c> {
-    ghost use Rattle.state_unpack.specs.Known.{Knowledge, KnowledgeFits, knowledge};
+    ghost use Rattle.state_unpack.specs.KeptKnowledge.{Knowledge, KnowledgeFits, knowledge};
 
     ghost Value = { Knowledge };
 

@@ -22,7 +22,7 @@ use Rattle.cluster_types.specs.Runs.{RunStanding, due, Runs, journal_at}
 use Rattle.cluster_types.specs.Safety.{count_of_others, may_have_role}
 
 -- from this journal on some lines tell what happened, up to that later journal: a line `begin` tells that its action begins, and a line
--- of an answer what the answer adds, by what is in flight. The other lines tell of plans, and nothing that happened
+-- of an answer what the answer adds, by what is in flight. The other lines tell nothing that happened
 abbrev pub LinesTell : Cluster → List Event → List RunLine → List Event → Type 0
 LinesTell c es [] later = later ≡ es
 LinesTell c es (line.Begin k a ∷ lines) later = LinesTell c (es ++ Begin k a ∷ []) lines later

@@ -5,7 +5,7 @@ use Rattle.cluster_types.specs.declared.journal.Event.{Event}
 use Rattle.cluster_types.specs.declared.journal.Promotion.{Promotion}
 use Rattle.cluster_types.specs.Journals.{moment_of}
 use Rattle.cluster_types.specs.Steps.{aborts, is_from_outside}
-use Rattle.state_unpack.specs.Known.{Knowledge, Knows}
+use Rattle.state_unpack.specs.KeptKnowledge.{Knowledge, Knows}
 
 -- the journal when the transition was planned, the events since, and how many more there is room for
 pub record LogOf : Type 0 where

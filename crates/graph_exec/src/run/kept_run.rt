@@ -35,7 +35,8 @@ fn kept(passed: Listed<Passed>, end: Ended) -> Result<Run, ReplayStop<Run>>
     }
 }
 
-/// Makes the run of a journal as [`crate::replay_watched`] does, with no watcher, and keeps it.
+/// Makes the run of a journal, of which [`crate::replay_watched`] says how it goes, and keeps it. No watcher stops it, and
+/// each transition is planned anew.
 ///
 /// Of each transition its targets and reasons are kept, with the positions of its events in the journal. `NoMemory` comes
 /// when memory runs out, or where the journal has 2^32 events or more, so that a position wouldn't fit.

@@ -12,7 +12,7 @@ use cluster_types::{Cluster, NoMemory, Placed, Plan, Rights, States};
 use planner::plan_of;
 use std::alloc::Global;
 
-/// A transition of which nothing has begun, and where everything goes by its plan.
+/// A transition of which nothing has begun; what its cluster may do, and where everything goes by its plan.
 #[derive(Drop)]
 pub(crate) struct Planned<'c> {
     pub rights: Rights,

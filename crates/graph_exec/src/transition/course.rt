@@ -12,7 +12,9 @@ use cluster_types::{Event, Graph};
 use std::alloc::Global;
 use std::marker::Model;
 
-/// What an executor keeps, whatever the events since the plan are. All memory is taken when it is made.
+/// A transition that goes on: its graph, the journal when it was planned, and the events since, whatever these are.
+///
+/// All memory is taken when it is made: that of two events of each action, and of 256 answers from outside.
 #[derive(Drop)]
 pub(crate) struct Course<'c> {
     pub(crate) log: Log<'c>,

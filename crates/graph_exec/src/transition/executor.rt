@@ -1,8 +1,8 @@
 //! A transition that is carried out.
 
-ghost use Rattle.std.specs.Prelude.{◌≡◌, ◌<◌, ◌+◌, ◌^◌, ◌++◌, [], true, IfOk, IfErr, OnOk, OnErr, IfSome, IfNone};
+ghost use Rattle.std.specs.Prelude.{◌≡◌, ◌<◌, ◌+◌, ◌^◌, ◌++◌, [], true, IfOk, IfErr, OnOk, OnErr, IfSome, IfNone, find};
 ghost use Rattle.cluster_types.specs.Journals.{moment_of};
-ghost use Rattle.cluster_types.specs.Steps.{HasEnded, IsWaiting, in_flight_by_number};
+ghost use Rattle.cluster_types.specs.Steps.{HasEnded, IsWaiting, aborts, in_flight_by_number};
 ghost use Rattle.cluster_types.specs.Valid.{KeepsLimits};
 ghost use Rattle.state_unpack.specs.Knowledge.{has_few_monitors};
 ghost use Rattle.graph_exec.specs.Flights.{pairs_in_flight};
@@ -16,7 +16,7 @@ use crate::transition::ends::WatchedEnd;
 use crate::transition::flight::InFlight;
 use crate::transition::known_journal::KnownJournal;
 use crate::transition::taking::Unexpected;
-use cluster_types::{Answer, Cluster, Graph, Journal};
+use cluster_types::{Answer, Cluster, Event, Graph, Journal};
 use std::alloc::Global;
 use std::marker::Model;
 
@@ -97,6 +97,13 @@ impl<'c> Executor<'c> {
         ensures promises { KeepsPromises self.now }
     {
         self.course.flight()
+    }
+
+    /// The first event that aborts the transition.
+    pub fn abort(&self) -> Option<Event>
+        ensures { result ≡ find (aborts self.now.cluster) self.now.since }
+    {
+        self.course.abort()
     }
 
     /// Of the actions that may begin, the one of lowest number begins, and its number is given. Where none may, nothing

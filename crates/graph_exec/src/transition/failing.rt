@@ -81,7 +81,9 @@ impl Outcomes for Failing {
 
     ghost said_later = { λ _ _ _ _ _ _. tt };
 
-    fn begun(&mut self, _number: u32, _action: Action) {}
+    fn begun(&mut self, _number: u32, _action: Action)
+        ensures { self.new ≡ self.old }
+    {}
 
     fn is_ready(&self) -> bool {
         true

@@ -5,7 +5,7 @@ ghost use Rattle.std.specs.Option.{option_or};
 ghost use Rattle.cluster_types.specs.Journals.{moment_of, seconds_of};
 ghost use Rattle.cluster_types.specs.Steps as steps;
 ghost use Rattle.graph_exec.specs.Inner.Logs.{log_of, logged};
-ghost use Rattle.state_unpack.specs.Known.{Knows};
+ghost use Rattle.state_unpack.specs.KeptKnowledge.{Knows};
 
 use crate::transition::known_journal::KnownJournal;
 use crate::transition::meaning::{aborts, is_from_outside};

@@ -32,8 +32,8 @@ fn points(rule: &Colocation, table: &Table, decision: Decision, node: NodeId) ->
     }
 }
 
-/// How much the colocations prefer the decision on the node, with the table so far: the total of the finite ones of which its leaf is the dependent and
-/// whose primary holds its role there (Pacemaker Explained, "Placing Resources Relative to other Resources"). It asks for a cluster within
+/// How much the colocations prefer the decision on the node, with the table so far: the total of the finite ones of which it gives the dependent its
+/// role and whose primary holds its role there (Pacemaker Explained, "Placing Resources Relative to other Resources"). It asks for a cluster within
 /// the limits.
 pub fn preference(cluster: &Cluster, table: &Table, decision: Decision, node: NodeId) -> Score
     requires { KeepsLimits cluster.now }

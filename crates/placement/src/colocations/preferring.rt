@@ -76,8 +76,8 @@ fn preference_row(
     Ok(row)
 }
 
-/// How much the colocations prefer the decision on each node, with the table so far: the total of the finite ones of which its leaf is the dependent
-/// and whose primary holds its role there (Pacemaker Explained, "Placing Resources Relative to other Resources").
+/// How much the colocations prefer the decision on each node, with the table so far: the total of the finite ones of which it gives the dependent
+/// its role and whose primary holds its role there (Pacemaker Explained, "Placing Resources Relative to other Resources").
 pub(crate) fn preferences(
     alloc: Global,
     cluster: &Cluster,

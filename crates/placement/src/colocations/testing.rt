@@ -8,7 +8,7 @@ ghost use Rattle.placement.specs.Tests as spec;
 
 use cluster_types::{Cluster, Colocation, Decision, NodeId, Table};
 
-/// Whether the primary holds its role on the node, if the decision's leaf must be with it by the colocation.
+/// Whether the primary holds its role on the node, if the colocation is mandatory and the decision gives the dependent its role.
 pub fn has_primary(rule: &Colocation, table: &Table, decision: Decision, node: NodeId) -> bool
     ensures { result ≡ spec.has_primary (targets_of table.now) decision node rule.now }
 {
@@ -16,7 +16,7 @@ pub fn has_primary(rule: &Colocation, table: &Table, decision: Decision, node: N
         || table.holds_role(rule.primary, rule.primary_role, node)
 }
 
-/// Whether the other side doesn't hold its role on the node, if the decision's leaf must be apart from it by the colocation.
+/// Whether the other side doesn't hold its role on the node, if the colocation keeps the two apart and the decision gives one of them its role.
 pub fn keeps_apart(rule: &Colocation, table: &Table, decision: Decision, node: NodeId) -> bool
     ensures { result ≡ spec.keeps_apart (targets_of table.now) decision node rule.now }
 {
@@ -45,8 +45,8 @@ fn is_apart(cluster: &Cluster, table: &Table, decision: Decision, node: NodeId) 
         .all(|rule| keeps_apart(rule, table, decision, node))
 }
 
-/// Whether the colocations allow the decision on the node, with the table so far: each primary with which its leaf must be holds its role there, and
-/// nothing that must be apart from it does (Pacemaker Explained, "Placing Resources Relative to other Resources").
+/// Whether the colocations allow the decision on the node, with the table so far: the primary of each mandatory one of which it gives the dependent its
+/// role holds its own there, and nothing that must be apart from it does (Pacemaker Explained, "Placing Resources Relative to other Resources").
 pub fn allowed(cluster: &Cluster, table: &Table, decision: Decision, node: NodeId) -> bool
     ensures { result ≡ (choice.has_primaries cluster.now (targets_of table.now) decision node
         && choice.is_apart cluster.now (targets_of table.now) decision node) }

@@ -5,7 +5,7 @@ ghost use Rattle.std.specs.List.{range_with_len};
 ghost use Rattle.planner.specs.Inner.Gates.{join_edges, key_at};
 ghost use Rattle.planner.specs.Joins.{first_joins, join as spec_join};
 ghost use Rattle.planner.specs.Inner.Places.{places_of};
-ghost use Rattle.planner.specs.PrecedenceEdges.{first_gates};
+ghost use Rattle.cluster_types.specs.Plans.{first_gates};
 ghost use Rattle.planner.specs.Inner.Rooms as rooms;
 ghost use Rattle.planner.specs.Inner.Rooms.{Builds};
 

@@ -3,11 +3,11 @@
 ghost use Rattle.std.specs.Prelude.{◌≡◌, ◌+◌, ◌*◌, ◌≤◌, AllPairs, Contains, IfOk, length, true};
 ghost use Rattle.cluster_types.specs.declared.journal.Action.{Action as ActionOf};
 ghost use Rattle.cluster_types.specs.Numbers.{is_earlier};
-ghost use Rattle.cluster_types.specs.Plans.{most_edges};
+ghost use Rattle.cluster_types.specs.Plans.{first_gates, most_edges};
 ghost use Rattle.cluster_types.specs.Valid.{IsValid};
 ghost use Rattle.planner.specs.Joins.{joins_of};
 ghost use Rattle.planner.specs.Inner.Places.{places_of};
-ghost use Rattle.planner.specs.PrecedenceEdges.{AreEdges, first_gates};
+ghost use Rattle.planner.specs.PrecedenceEdges.{AreEdges};
 ghost use Rattle.planner.specs.Inner.Rooms.{Builds};
 ghost use Rattle.planner.specs.ActionNames.{IsActionWithin};
 

@@ -2,9 +2,9 @@ use Rattle.std.proofs.Common.{◌≡◌, ◌≤◌, true, AllPairs, Contains, su
 use Rattle.cluster_types.specs.Graphs.{GraphOf, is_before}
 use Rattle.cluster_types.specs.NeededActions.{Needed}
 use Rattle.cluster_types.specs.Numbers.{AreNumbered, is_earlier}
-use Rattle.cluster_types.specs.Plans.{most_edges, precedes_by_number}
+use Rattle.cluster_types.specs.Plans.{AreFewEdges, most_edges, precedes_by_number}
 use Rattle.cluster_types.specs.Steps.{numbered}
-use Rattle.planner.specs.PrecedenceEdges.{AreEdges, AreFewEdges, graph_by}
+use Rattle.planner.specs.PrecedenceEdges.{AreEdges, graph_by}
 use Rattle.planner.proofs.Pairs.{pairs_are}
 use Rattle.planner.proofs.Sorted.{numbered_by}
 use Rattle.planner.proofs.WholeOrder.{few, graph, inside}

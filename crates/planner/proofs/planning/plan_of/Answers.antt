@@ -42,6 +42,6 @@ returns c = λ events promotions told.
           numbered = subst (λ (p : Placed). AreNumbered cl (Needed cl events (targets_of p.table)) last.graph.actions) (sym placed) numbered;
         };
         pairs = IfOk-at_ok _ last.ensures.1 c.number-graph.ensures.pairs;
+        few = IfOk-at_ok _ last.ensures.1 c.number-graph.ensures.few;
       };
-      few = IfOk-at_ok _ last.ensures.1 c.number-graph.ensures.few;
     }

@@ -1,6 +1,6 @@
 use Rattle.std.proofs.Common.{◌≡◌, ◌*◌, List, length}
 use Rattle.cluster_types.specs.declared.journal.Event.{Event}
-use Rattle.state_unpack.specs.Known.{Knows}
+use Rattle.state_unpack.specs.KeptKnowledge.{Knows}
 use Rattle.simulated.specs.RealWorlds.{first_real}
 use Rattle.simulated.specs.Inner.Firsts.{HearsOutcomes, IsFilled}
 use Rattle.simulated.proofs.first.first_cells.Given as goal

@@ -1,7 +1,7 @@
 use Rattle.std.proofs.Common.{◌≡◌, ℕ, List, length}
 use Rattle.cluster_types.specs.declared.journal.Event.{Event}
 use Rattle.cluster_types.specs.Journals.{last_sign}
-use Rattle.state_unpack.specs.Known.{Knows}
+use Rattle.state_unpack.specs.KeptKnowledge.{Knows}
 use Rattle.simulated.specs.KeptReality.{ListsNodes}
 use Rattle.simulated.specs.RealWorlds.{standing_by}
 use Rattle.simulated.proofs.first.first_nodes.Given as goal

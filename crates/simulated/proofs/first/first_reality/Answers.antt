@@ -1,6 +1,6 @@
 use Rattle.std.proofs.Common.{ℕ, length, sym, subst}
 use Rattle.cluster_types.specs.Journals.{last_sign}
-use Rattle.state_unpack.specs.Known.{Knows}
+use Rattle.state_unpack.specs.KeptKnowledge.{Knows}
 use Rattle.simulated.specs.KeptReality.{ListsCells, ListsNodes}
 use Rattle.simulated.specs.RealWorlds.{first_real, standing_by}
 use Rattle.simulated.specs.Inner.Firsts.{HearsOutcomes}

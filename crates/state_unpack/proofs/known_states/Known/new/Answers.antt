@@ -3,7 +3,7 @@ use Rattle.std.proofs.lemmas.List.{take_more}
 use Rattle.std.proofs.lemmas.List.Sums.{sum_by_more_le}
 use Rattle.cluster_types.specs.Journals.{seconds_of}
 use Rattle.cluster_types.specs.declared.journal.Event.TheVariants.{Up}
-use Rattle.state_unpack.specs.Known.{Knows}
+use Rattle.state_unpack.specs.KeptKnowledge.{Knows}
 use Rattle.state_unpack.proofs.known_states.Known.new.Goals as goal
 
 pub tell-requires : goal.tell-requires

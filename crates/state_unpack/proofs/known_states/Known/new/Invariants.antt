@@ -1,5 +1,5 @@
 use Rattle.std.proofs.Common.{take}
-use Rattle.state_unpack.specs.Known.{Knows}
+use Rattle.state_unpack.specs.KeptKnowledge.{Knows}
 use Rattle.state_unpack.proofs.known_states.Known.new.Given as goal
 
 abbrev pub invariant-loop-event : goal.invariant-loop-event

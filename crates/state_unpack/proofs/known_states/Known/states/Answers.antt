@@ -1,6 +1,6 @@
 use Rattle.std.proofs.Common.{rules, ◌≡◌, ◌∙◌}
 use Rattle.state_unpack.specs.Inner.CellsKept.{states_from}
-use Rattle.state_unpack.specs.Known.{knowledge}
+use Rattle.state_unpack.specs.KeptKnowledge.{knowledge}
 use Rattle.state_unpack.proofs.JournalSoFar.{states-known}
 use Rattle.state_unpack.proofs.known_states.Known.states.Goals as goal
 
