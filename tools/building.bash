@@ -3,7 +3,7 @@
 # terminal.
 
 # What a build takes, as measured: docs/ARCHITECTURE.md.
-readonly minutes=103 memory_of_one=5600 disk=11000 # processor minutes, and MB
+readonly minutes=81 memory_of_one=4800 disk=13000 # processor minutes, and MB
 
 say() {
   printf 'cekpayo: %s\n' "$@" >&2
@@ -58,7 +58,7 @@ say_needs() {
   local memory disk_here
   memory=$(free_memory) disk_here=$(free_disk)
   say "the program isn't built, or is older than its sources; it is proved and built now, which goes on where it was cut off" \
-    "from nothing this takes some $minutes processor minutes, an hour or more on four processors; one process takes 5.6 GB of memory, and the work 11 GB of disk" \
+    "from nothing this takes some $minutes processor minutes, half an hour on four processors; one process takes 4.8 GB of memory, and the work 13 GB of disk" \
     "here: $(nproc) processors, $((${memory:-0} / 1000)) GB of memory and $((${disk_here:-0} / 1000)) GB of disk are free" \
     "\`$me --try WORD FILE\` answers within some two minutes instead, from the sources as they stand, unproved"
   [ "${memory:-$memory_of_one}" -ge "$memory_of_one" ] || say "there may be too little memory here"

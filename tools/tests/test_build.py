@@ -61,7 +61,7 @@ def try_lock(folder):
     said = [process.stderr.read().decode() for process in both]
     expect("two calls at once", [process.wait() for process in both] == [0, 0] and len(copy.asked()) == 4, str(said) + str(copy.asked()))
     builds, waits = sorted(said, key=len, reverse=True)
-    for told in ("5.6 GB of memory", "11 GB of disk", "processor minutes", "`./cekpayo --try WORD FILE`", " of 4"):
+    for told in ("4.8 GB of memory", "13 GB of disk", "processor minutes", "`./cekpayo --try WORD FILE`", " of 4"):
         expect(f"a build says {told}", told in builds, builds)
     expect("a build in a log", re.search(r"^cekpayo: 0 minutes, 0 of \d+ crates$", builds, re.M), builds)
     expect("who waits", "another call is building the program" in waits, waits)
