@@ -1,5 +1,5 @@
 -- How steps are put together.
-use Rattle.std.proofs.Common.{arith, ◌≡◌, ◌<◌, ◌≤◌, ℕ, Bool, true, Option, Some, None, List, [], ◌∷◌, ◌++◌, length, refl, sym, ap, ◌∙◌, subst}
+use Rattle.std.proofs.Common.{◌≡◌, ◌<◌, ◌≤◌, ℕ, Bool, true, Option, Some, None, List, [], ◌∷◌, ◌++◌, length, refl, sym, ap, ◌∙◌, subst}
 use Rattle.std.specs.List.{list_any}
 use Rattle.std.proofs.lemmas.Bool.{eq-eqb}
 use Rattle.std.proofs.lemmas.List.{nil_from_length}
@@ -15,10 +15,12 @@ use Rattle.run_safety.proofs.InFlight.{among_flying}
 use Rattle.run_safety.proofs.Printed.{answer_line, end_line}
 use Rattle.graph_exec.specs.declared.transition.ends.WatchedEnd.{WatchedEnd}
 use Rattle.graph_exec.specs.declared.transition.ends.WatchedEnd.TheVariants as how
+use Rattle.graph_exec.specs.Questions.{answers_entered}
 use Rattle.graph_exec.specs.Inner.Rounds.{Advanced, Answered, Began, StopsAs, asks_left, begins_left}
 use Rattle.graph_exec.specs.Executors.{ExecutorOf, Took, Went, transition_in, later}
 use Rattle.graph_exec.specs.Inner.ExecutorFields.{EndedSilently}
 use Rattle.graph_exec.specs.Transitions.{EndsAs, WentByEnd, EndedByItself, IsExpected}
+use Rattle.graph_exec.proofs.Entered.{entered_one}
 use Rattle.graph_exec.proofs.Fewer.{asks_fewer, begin_leaves, silent_leaves, take_leaves}
 use Rattle.graph_exec.proofs.Flying.{many_flying}
 
@@ -106,7 +108,11 @@ module _ (whole : Bool) (old new : ExecutorOf) (rest left : Option (List Answer)
   went_answered given a = went_step whole old new a.events rest left a.goes_on a.step
 
   pub advanced : (given : Answer) → Answered whole old new rest left given → Advanced whole old new rest left
-  advanced given a = record { went = went_answered given a; fewer = a.fewer }
+  advanced given a = record {
+    went = went_answered given a;
+    fewer = a.fewer;
+    entered = ap (λ (r : ExecutorOf). answers_entered r.since) a.goes_on ∙ entered_one old.since a.events given a.lines;
+  }
 
   -- no answer was taken
   pub gone_by : (end : WatchedEnd) → StopsAs whole old new rest left end → WentByEnd whole old new rest left end

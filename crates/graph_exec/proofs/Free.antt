@@ -1,5 +1,5 @@
 -- With all counted off, an action has no edge left just where each action before it has succeeded.
-use Rattle.std.proofs.Common.{arith, ◌≡◌, ◌<◌, ◌≤◌, ◌+◌, ◌-◌, ◌==◌, ◌&&◌, ◌||◌, not, nat_lt, nat_le, ℕ, suc, zero, Bool, true, false, List, [], length, take, filter, slice_index_or, refl, sym, ap, ◌∙◌, ◌≢◌, ◌⊎◌, inl, inr, Contains, Any}
+use Rattle.std.proofs.Common.{arith, ◌≡◌, ◌<◌, ◌≤◌, ◌+◌, ◌-◌, ◌==◌, ◌&&◌, ◌||◌, not, ℕ, suc, zero, Bool, true, false, List, [], length, take, filter, slice_index_or, refl, sym, ap, ◌∙◌, ◌≢◌, ◌⊎◌, inl, inr, Contains, Any}
 use Rattle.std.specs.List.{range_with_len}
 use Rattle.std.proofs.lemmas.Bool.{cases_lt, eqb-true, eqb-false, eq-eqb}
 use Rattle.std.proofs.lemmas.List.{take_all}

@@ -17,6 +17,7 @@ pub mod Outside
 pub mod Losses
 pub mod Silent
 pub mod Fewer
+pub mod Entered
 pub mod Carrying
 pub mod Aborting
 pub mod Lasts
@@ -35,6 +36,7 @@ pub mod Closings
 pub mod LastsNext
 pub mod Shown
 pub mod Quiet
+pub mod Questions
 pub mod Rests
 pub mod CountedTransitions
 pub mod Whole

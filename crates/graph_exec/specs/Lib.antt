@@ -8,6 +8,7 @@ pub mod Scripts
 pub mod WatcherLines
 pub mod WatchedTransitions
 pub mod Counts
+pub mod Questions
 pub mod LastWords
 pub mod Transitions
 pub mod Promises

@@ -1,8 +1,11 @@
 -- What one round of a transition makes. No public clause cites this module (rule of this project).
-use Rattle.std.specs.Prelude.{◌≡◌, ◌+◌, ◌-◌, ◌<◌, ℕ, Bool, not, Option, Some, None, Result, Ok, Err, List, [], ◌∷◌, count_by}
+use Rattle.std.specs.Prelude.{◌≡◌, ◌+◌, ◌-◌, ◌<◌, ℕ, Bool, not, Option, Some, None, Result, Ok, Err, List, [], ◌∷◌, ◌++◌, count_by}
 use Rattle.std.specs.List.{flat_map}
+use Rattle.cluster_types.specs.declared.cluster.Cluster.{Cluster}
+use Rattle.cluster_types.specs.declared.journal.Action.{Action}
 use Rattle.cluster_types.specs.declared.journal.Answer.{Answer}
 use Rattle.cluster_types.specs.declared.journal.Event.{Event}
+use Rattle.cluster_types.specs.declared.journal.Event.TheVariants.{Begin}
 use Rattle.cluster_types.specs.declared.run.RunLine.TheVariants as line
 use Rattle.cluster_types.specs.AnswersThatApply.{most_from_outside}
 use Rattle.cluster_types.specs.Sources.{Says}
@@ -10,8 +13,10 @@ use Rattle.cluster_types.specs.Steps.{Applies, IsWaiting, StepsOn, answer_events
 use Rattle.cluster_types.specs.Texts.{event_lines}
 use Rattle.graph_exec.specs.declared.transition.ends.WatchedEnd.{WatchedEnd}
 use Rattle.graph_exec.specs.declared.transition.ends.WatchedEnd.TheVariants as how
+use Rattle.graph_exec.specs.declared.transition.outcomes.Outcomes.{Ghosts as OutcomesOf}
 use Rattle.graph_exec.specs.declared.transition.watcher.Heard.{Heard}
 use Rattle.graph_exec.specs.declared.transition.watcher.Heard.TheVariants as says
+use Rattle.graph_exec.specs.Questions.{answers_entered}
 use Rattle.graph_exec.specs.LastWords.{LastWord, none_failed, transition_word}
 use Rattle.graph_exec.specs.Executors.{ExecutorOf, BeginsNow, IsAnswerRefused, Went, transition_in, later}
 use Rattle.graph_exec.specs.WatchedTransitions.{heard_at}
@@ -31,6 +36,13 @@ pub record Began (old new : ExecutorOf) : Type 0 where
   pub number : ℕ
   pub now : BeginsNow old new number
 
+-- the source was told of this begin: it has come so from an earlier moment, and with each journal with which it agreed then it agrees now, with the begin in it
+module _ {A : Type 0} (s : OutcomesOf A) where
+  pub record IsBeginTold (now : A) (number : ℕ) (action : Action) : Type 0 where
+    pub before : A
+    pub follows : s.follows before now
+    pub agrees : (c : Cluster) (es : List Event) (taken : ℕ) → s.agrees before c es taken → s.agrees now c (es ++ Begin number action ∷ []) taken
+
 -- an answer was taken, or an action ended silently, as if this had been answered
 pub record Answered (whole : Bool) (old new : ExecutorOf) (rest left : Option (List Answer)) (given : Answer) : Type 0 where
   pub events : List Event
@@ -41,10 +53,11 @@ pub record Answered (whole : Bool) (old new : ExecutorOf) (rest left : Option (L
   pub lines : flat_map event_lines events ≡ line.Taken given ∷ []
   pub fewer : asks_left new < asks_left old
 
--- it went on, and an answer fewer may be taken
+-- it went on, an answer fewer may be taken, and one has entered the events
 pub record Advanced (whole : Bool) (old new : ExecutorOf) (rest left : Option (List Answer)) : Type 0 where
   pub went : Went whole old new rest left
   pub fewer : asks_left new < asks_left old
+  pub entered : answers_entered new.since ≡ answers_entered old.since + 1
 
 -- the answer doesn't apply
 pub record IsUnexpected (whole : Bool) (old new : ExecutorOf) (rest left : Option (List Answer)) (given : Answer) : Type 0 where

@@ -4,6 +4,7 @@ ghost use Rattle.std.specs.Prelude.{◌≡◌, [], true, false, IfOk, IfErr};
 ghost use Rattle.cluster_io.specs.Streams.{Rose};
 ghost use Rattle.cluster_types.specs.Runs.{amid};
 ghost use Rattle.cluster_types.specs.Safety.{IsAtRest};
+ghost use Rattle.graph_exec.specs.Questions.{AskedBeside, AskedByEnd, events_left};
 ghost use Rattle.graph_exec.specs.LastWords.{SourceLasts, WatcherLasts};
 ghost use Rattle.graph_exec.specs.Executors.{transition_in};
 ghost use Rattle.graph_exec.specs.Replays.{AgreesWith, IsQuietInFault, IsReplayExpected, IsShownEnd, OfMade, setting, sight};
@@ -46,6 +47,8 @@ pub(crate) fn carry_out<'c, S: Outcomes, V: Watcher>(
 
     ensures source { SourceLasts S.Outcomes outcomes.old outcomes.new (part_word result) }
     ensures answer { IfOk result (λ closed. closed.0 ≡ false → Rose (S.answered outcomes.old) (S.answered outcomes.new)) }
+    ensures questions { IfOk result (λ closed. AskedBeside 0 (S.asked outcomes.old) (S.asked outcomes.new) executor.entry.planned_at closed.1.journal.events) }
+    ensures questions_at_end { IfErr result (AskedByEnd events_left (S.asked outcomes.old) (S.asked outcomes.new) executor.entry.planned_at) }
     ensures watcher { WatcherLasts V.Watcher watcher.old watcher.new (part_heard result) }
     ensures quiet { IfErr result (IsQuietInFault (S.broke outcomes.new) (V.quiet watcher.new)) }
     ensures shown { V.shown watcher.old Heard.Go

@@ -1,9 +1,10 @@
 //! An answer that comes while nothing is to be done.
 
-ghost use Rattle.std.specs.Prelude.{◌≡◌, ◌⊎◌, ◌+◌, [], true, IfOk, IfErr};
+ghost use Rattle.std.specs.Prelude.{◌≡◌, ◌≤◌, ◌⊎◌, ◌+◌, [], true, IfOk, IfErr};
 ghost use Rattle.cluster_io.specs.Streams.{Rose};
 ghost use Rattle.cluster_types.specs.Journals.{in_flight_by_begin};
 ghost use Rattle.cluster_types.specs.Runs.{due, idle};
+ghost use Rattle.graph_exec.specs.Questions.{AskedBeside, AskedByEnd, events_left};
 ghost use Rattle.graph_exec.specs.Inner.KeptTransitions.{IsAnswered, IsUnanswered};
 ghost use Rattle.graph_exec.specs.LastWords.{SourceLasts, WatcherLasts};
 ghost use Rattle.graph_exec.specs.Replays.{AgreesWith, IsQuietInFault, IsReplayExpected, IsShownEnd, OfMade, setting, sight};
@@ -52,6 +53,7 @@ pub(crate) fn ask_idle<'c, S: Outcomes, V: Watcher>(
 
     ensures source { SourceLasts S.Outcomes outcomes.old outcomes.new (part_word result) }
     ensures answer { IfOk result (λ _. Rose (S.answered outcomes.old) (S.answered outcomes.new)) }
+    ensures asked { S.asked outcomes.new ≤ S.asked outcomes.old + 1 }
     ensures quiet { IfErr result (IsQuietInFault (S.broke outcomes.new) (V.quiet watcher.now)) }
 {
     let Ok(mut course) = Course::new(alloc, journal, nothing_to_do(alloc)) else {
@@ -106,6 +108,8 @@ pub(crate) fn take_idle<'c, S: Outcomes, V: Watcher>(
 
     ensures source { SourceLasts S.Outcomes outcomes.old outcomes.new (part_word result) }
     ensures answer { IfOk result (λ _. Rose (S.answered outcomes.old) (S.answered outcomes.new)) }
+    ensures questions { IfOk result (λ later. AskedBeside 0 (S.asked outcomes.old) (S.asked outcomes.new) journal.entry.events later.events) }
+    ensures questions_at_end { IfErr result (AskedByEnd events_left (S.asked outcomes.old) (S.asked outcomes.new) journal.entry.events) }
     ensures watcher { WatcherLasts V.Watcher watcher.old watcher.new (part_heard result) }
     ensures quiet { IfErr result (IsQuietInFault (S.broke outcomes.new) (V.quiet watcher.new)) }
     ensures shown { V.shown watcher.old Heard.Go (view_between journal.entry.cluster journal.entry.promotions journal.entry.events)

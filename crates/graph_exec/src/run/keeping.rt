@@ -5,6 +5,7 @@ ghost use Rattle.cluster_types.specs.declared.journal.Answer.{Answer as AnswerOf
 ghost use Rattle.cluster_types.specs.declared.journal.Event.{Event as EventOf};
 ghost use Rattle.cluster_types.specs.Safety.{IsAtRest};
 ghost use Rattle.cluster_types.specs.Valid.{IsValid};
+ghost use Rattle.graph_exec.specs.Questions.{AskedBeside, AskedByEnd, events_left};
 ghost use Rattle.graph_exec.specs.Inner.KeptTransitions.{KeepsEnd, KeepsTo, StaysOf, keeping_word, passed_end};
 ghost use Rattle.graph_exec.specs.LastWords.{SourceLasts};
 ghost use Rattle.graph_exec.specs.Replays.{AgreesWith, IsReplayExpected, OfMade, setting};
@@ -93,6 +94,8 @@ pub(crate) fn keep_transition<'c, S: Outcomes>(
         → IfErr result IsReplayExpected }
 
     ensures source { SourceLasts S.Outcomes outcomes.old outcomes.new (keeping_word result) }
+    ensures questions { IfOk result (λ later. AskedBeside 0 (S.asked outcomes.old) (S.asked outcomes.new) journal.entry.events later.events) }
+    ensures questions_at_end { IfErr result (AskedByEnd events_left (S.asked outcomes.old) (S.asked outcomes.new) journal.entry.events) }
 {
     let begins_at = journal.count();
     let Ok((_, planned)) = plan_next(alloc, journal, None) else {

@@ -4,6 +4,7 @@ ghost use Rattle.std.specs.Prelude.{◌≡◌, ◌<◌, ◌^◌, true};
 ghost use Rattle.cluster_types.specs.Journals.{moment_of};
 ghost use Rattle.cluster_types.specs.Safety.{IsAtRest};
 ghost use Rattle.cluster_types.specs.Valid.{IsValid};
+ghost use Rattle.graph_exec.specs.Questions.{AskedByEnd, events_kept};
 ghost use Rattle.graph_exec.specs.Inner.KeptTransitions.{kept_end};
 ghost use Rattle.graph_exec.specs.KeptRuns.{KeepsAs, KeepsPlans, kept_word};
 ghost use Rattle.graph_exec.specs.LastWords.{SourceLasts};
@@ -62,6 +63,7 @@ pub fn replay<S: Outcomes>(
 
     // What became of the source.
     ensures source { SourceLasts S.Outcomes outcomes.old outcomes.new (kept_word result) }
+    ensures questions { AskedByEnd events_kept (S.asked outcomes.old) (S.asked outcomes.new) journal.events result }
     ensures agrees { S.agrees outcomes.old cluster.now journal.events 0
         → OfMade (λ run. AgreesWith (S.agrees outcomes.new) cluster.now run.journal) result }
     ensures fitting { S.careful outcomes.old ≡ true → S.agrees outcomes.old cluster.now journal.events 0 → IsReplayExpected result }

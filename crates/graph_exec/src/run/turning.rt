@@ -6,6 +6,7 @@ ghost use Rattle.cluster_types.specs.Runs.{due};
 ghost use Rattle.cluster_types.specs.Safety.{IsAtRest};
 ghost use Rattle.cluster_types.specs.Valid.{IsValid};
 ghost use Rattle.graph_exec.specs.declared.run.stop.ReplayStop.TheVariants.{Stopped};
+ghost use Rattle.graph_exec.specs.Questions.{AskedBeside, AskedByEnd, events_left};
 ghost use Rattle.graph_exec.specs.LastWords.{SourceLasts, WatcherLasts};
 ghost use Rattle.graph_exec.specs.Replays.{AgreesWith, IsQuietInFault, IsReplayExpected, IsShownEnd, OfMade, setting, sight};
 ghost use Rattle.graph_exec.specs.WatcherLines.{view_between};
@@ -63,6 +64,8 @@ pub(crate) fn make_transition<'c, S: Outcomes, V: Watcher>(
 
     ensures source { SourceLasts S.Outcomes outcomes.old outcomes.new (part_word result) }
     ensures answer { IfOk result (λ _. Rose (S.answered outcomes.old) (S.answered outcomes.new)) }
+    ensures questions { IfOk result (λ turn. AskedBeside 0 (S.asked outcomes.old) (S.asked outcomes.new) journal.entry.events turn.1.events) }
+    ensures questions_at_end { IfErr result (AskedByEnd events_left (S.asked outcomes.old) (S.asked outcomes.new) journal.entry.events) }
     ensures watcher { WatcherLasts V.Watcher watcher.old watcher.new (part_heard result) }
     ensures quiet { IfErr result (IsQuietInFault (S.broke outcomes.new) (V.quiet watcher.new)) }
     ensures shown { V.shown watcher.old Heard.Go (view_between journal.entry.cluster journal.entry.promotions journal.entry.events)

@@ -5,6 +5,7 @@ ghost use Rattle.cluster_types.specs.Journals.{moment_of};
 ghost use Rattle.cluster_types.specs.Safety.{IsAtRest};
 ghost use Rattle.cluster_types.specs.Valid.{IsValid};
 ghost use Rattle.graph_exec.specs.Counts.{AreMostAnswered};
+ghost use Rattle.graph_exec.specs.Questions.{AskedByEnd, events_left};
 ghost use Rattle.graph_exec.specs.LastWords.{SourceLasts, WatcherLasts};
 ghost use Rattle.graph_exec.specs.WatcherLines.{view_between};
 ghost use Rattle.graph_exec.specs.Replays.{AgreesWith, IsQuietInFault, IsReplayExpected, IsJournalKept, IsShownEnd, OfMade, ReplaysAs, replay_heard, replay_word, setting, sight};
@@ -49,6 +50,7 @@ pub fn replay_watched<S: Outcomes, V: Watcher>(
     // What became of the source.
     ensures source { SourceLasts S.Outcomes outcomes.old outcomes.new (replay_word result) }
     ensures answers { AreMostAnswered most (S.answered outcomes.old) (S.answered outcomes.new) result }
+    ensures questions { AskedByEnd events_left (S.asked outcomes.old) (S.asked outcomes.new) journal.events result }
     ensures agrees { S.agrees outcomes.old cluster.now journal.events 0 → OfMade (AgreesWith (S.agrees outcomes.new) cluster.now) result }
     ensures fitting { S.careful outcomes.old ≡ true → S.agrees outcomes.old cluster.now journal.events 0 → IsReplayExpected result }
 

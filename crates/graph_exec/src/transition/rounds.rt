@@ -1,20 +1,23 @@
 //! One round of a transition over a source: all that may begin, begins, and then an answer is taken.
 
-ghost use Rattle.std.specs.Prelude.{◌≡◌, ◌⊎◌, ◌<◌, ◌≤◌, ◌+◌, [], true, false, None, IfSome, IfNone, IfOk, IfErr, OnOk, unwrap_or};
+ghost use Rattle.std.specs.Prelude.{◌≡◌, ◌⊎◌, ◌<◌, ◌≤◌, ◌+◌, [], ◌∷◌, true, false, None, IfSome, IfNone, IfOk, IfErr, OnOk, unwrap_or};
+ghost use Rattle.cluster_types.specs.declared.journal.Event.TheVariants.{Begin};
+ghost use Rattle.cluster_types.specs.declared.run.RunLine.TheVariants as line;
 ghost use Rattle.cluster_types.specs.Steps.{IsWaiting, is_settled};
 ghost use Rattle.graph_exec.specs.Counts.{IsAbortAnswered};
+ghost use Rattle.graph_exec.specs.Questions.{AskedBeside, asked_beside};
 ghost use Rattle.graph_exec.specs.LastWords.{SourceLasts, WatcherLasts, none_failed};
-ghost use Rattle.graph_exec.specs.Inner.Rounds.{Advanced, Answered, StopsAs, asked_word, asks_left, begins_left, heard_in, round_word};
+ghost use Rattle.graph_exec.specs.Inner.Rounds.{Advanced, Answered, IsBeginTold, StopsAs, asked_word, asks_left, begins_left, heard_in, round_word};
 ghost use Rattle.graph_exec.specs.Executors.{IsUnderWay, Went, transition_in};
 ghost use Rattle.graph_exec.specs.Transitions.{Accords, EndsAs, WentByEnd, EndedByItself, IsExpected, WentAsSaid};
-ghost use Rattle.graph_exec.specs.WatcherLines.{RunView};
+ghost use Rattle.graph_exec.specs.WatcherLines.{RunView, view_action, view_later};
 ghost use Rattle.graph_exec.specs.WatchedTransitions.{IsToldUpTo, IsQuietAt, IsShownAll};
 
 use crate::transition::ends::WatchedEnd;
 use crate::transition::executor::Executor;
 use crate::transition::outcomes::{Next, Outcomes};
 use crate::transition::watcher::{Heard, Watcher};
-use cluster_types::Answer;
+use cluster_types::{Action, Answer};
 
 /// The source is asked next: unless what it says is at hand, the watcher is told so.
 pub(crate) fn wait_for<S: Outcomes, V: Watcher>(outcomes: &S, watcher: &mut V) -> Heard
@@ -28,6 +31,23 @@ pub(crate) fn wait_for<S: Outcomes, V: Watcher>(outcomes: &S, watcher: &mut V) -
         return Heard::Go;
     }
     watcher.waits()
+}
+
+/// The watcher is told of a begin, of which the source was told before: so the source matches the journal also where the
+/// watcher stops the run here.
+fn tell_begin<S: Outcomes, V: Watcher>(
+    outcomes: &S,
+    watcher: &mut V,
+    number: u32,
+    action: Action,
+) -> Heard
+    requires source_first { IsBeginTold S.Outcomes outcomes.now number action }
+    ensures follows { result ≡ Heard.Go → V.follows watcher.old watcher.new (line.Begin number action ∷ []) }
+    ensures stopped { result ≡ Heard.Stop → V.stopped watcher.old watcher.new [] (Some (line.Begin number action)) }
+    ensures watcher { WatcherLasts V.Watcher watcher.old watcher.new result }
+    ensures shown { (v : RunView) → view_action v number ≡ Some action → V.shown watcher.old Heard.Go v → V.shown watcher.new result (view_later v (Begin number action ∷ [])) }
+{
+    watcher.begun(number, action)
 }
 
 impl<'c> Executor<'c> {
@@ -60,7 +80,8 @@ impl<'c> Executor<'c> {
         };
         let action = self.course.flight().graph().action(number);
         outcomes.begun(number, action);
-        Some(watcher.begun(number, action))
+        let heard = tell_begin(outcomes, watcher, number, action);
+        Some(heard)
     }
 
     /// All that may begin, begins, in the order of their numbers, as long as the watcher goes on.
@@ -146,6 +167,7 @@ impl<'c> Executor<'c> {
 
         ensures source { SourceLasts S.Outcomes outcomes.old outcomes.new (round_word result) }
         ensures asked { S.asked outcomes.new ≤ S.asked outcomes.old + 1 }
+        ensures questions { IfSome result (λ end. AskedBeside (asked_beside end) (S.asked outcomes.old) (S.asked outcomes.new) self.old.since self.new.since) }
         ensures aborted { IsAbortAnswered self.old self.new (S.answered outcomes.old) (S.answered outcomes.new) }
         ensures agrees { Accords (S.agrees outcomes.old) self.old → Accords (S.agrees outcomes.new) self.new }
         ensures said { S.steady outcomes.old ≡ true → S.over outcomes.new ≡ false

@@ -2,9 +2,11 @@ use Rattle.std.proofs.Common.{◌≡◌, List, ◌++◌, ap, inl, not, refl, ◌
 use Rattle.graph_exec.specs.declared.transition.watcher.Heard.TheVariants as heard
 use Rattle.cluster_types.specs.declared.journal.Event.{Event}
 use Rattle.graph_exec.specs.KnownJournals.{KnownJournalOf}
+use Rattle.graph_exec.specs.Questions.{AskedBeside}
 use Rattle.graph_exec.specs.Executors.{ExecutorOf}
 use Rattle.graph_exec.proofs.Closings.{HasClosed, broken, closes, cut, has_closed, stops_closing, stops_either}
 use Rattle.graph_exec.proofs.Lasts.{watcher_then, watcher_told}
+use Rattle.graph_exec.proofs.Questions.{asks_behind}
 use Rattle.graph_exec.proofs.Rests.{accords_first, accords_last, leaves_rest, stays_there}
 use Rattle.graph_exec.proofs.Shown.{shown_closed, shown_closing, shown_first, shown_left}
 use Rattle.graph_exec.proofs.Whole.{events_in}
@@ -89,6 +91,51 @@ returns-in-Stopped-clause-ends g c = stops_either _ _ _ _ _ c.requires.fresh _ _
 pub returns-in-Stopped-clause-agrees_at_end : goal.returns-in-Stopped-clause-agrees_at_end
 returns-in-Stopped-clause-agrees_at_end g c h =
     agrees_left g (goal.at.returns-in-Stopped-clause-agrees_at_end g c).After-run_watched (stays_there _ _ _ _ _ c.in-Stopped.ensures.steps) h _ (ap events_in c.into_journal-in-Stopped.ensures)
+
+-- how often the source was asked
+
+asks_closed : (g : Over) (c : After-closed g)
+    → AskedBeside 0 (g.S.Outcomes.asked c.args.outcomes.now) (g.S.Outcomes.asked c.run_watched.new.outcomes) c.args.executor.since c.run_watched.new.executor.since
+asks_closed g c = elim c.match-run_watched.branch [
+  | in-Complete w ↦ rw w.in-Complete.is at c.run_watched.ensures.questions
+  | in-Aborted w ↦ rw w.in-Aborted.is at c.run_watched.ensures.questions
+]
+
+planned_still : (first last : ExecutorOf) → last ≡ record {
+  cluster = first.cluster;
+  graph = first.graph;
+  planned_at = first.planned_at;
+  since = last.since;
+  promotions = first.promotions;
+} → last.planned_at ≡ first.planned_at
+planned_still first last same = ap (λ (r : ExecutorOf). r.planned_at) same
+
+pub returns-in-Go-clause-questions : goal.returns-in-Go-clause-questions
+returns-in-Go-clause-questions g c =
+    let closed = (goal.at.returns-in-Go-clause-questions g c).After-closed in
+    asks_behind c.args.executor c.run_watched.new.executor (planned_still c.args.executor c.run_watched.new.executor (closed_in g closed).went.same) c.requires.fresh _ _ _ (asks_closed g closed) _
+    (ap (λ (x : KnownJournalOf). x.events) c.into_parts.ensures.journal)
+
+pub returns-in-Stop-clause-questions_at_end : goal.returns-in-Stop-clause-questions_at_end
+returns-in-Stop-clause-questions_at_end g c =
+    let closed = (goal.at.returns-in-Stop-clause-questions_at_end g c).After-closed in
+    asks_behind c.args.executor c.run_watched.new.executor (planned_still c.args.executor c.run_watched.new.executor (closed_in g closed).went.same) c.requires.fresh _ _ _ (asks_closed g closed) _
+    (ap events_in c.into_journal-in-Stop.ensures)
+
+pub returns-in-Unexpected-clause-questions_at_end : goal.returns-in-Unexpected-clause-questions_at_end
+returns-in-Unexpected-clause-questions_at_end g c =
+    let made = c.in-Unexpected.ensures in
+    asks_behind c.args.executor c.run_watched.new.executor (planned_still c.args.executor c.run_watched.new.executor made.steps.went.same) c.requires.fresh _ _ _ made.questions _ (ap events_in c.into_journal.ensures)
+
+pub returns-in-SourceFault-clause-questions_at_end : goal.returns-in-SourceFault-clause-questions_at_end
+returns-in-SourceFault-clause-questions_at_end g c =
+    let made = c.in-SourceFault.ensures in
+    asks_behind c.args.executor c.run_watched.new.executor (planned_still c.args.executor c.run_watched.new.executor made.steps.same) c.requires.fresh _ _ _ made.questions _ (ap events_in c.into_journal-in-SourceFault.ensures)
+
+pub returns-in-Stopped-clause-questions_at_end : goal.returns-in-Stopped-clause-questions_at_end
+returns-in-Stopped-clause-questions_at_end g c =
+    let made = c.in-Stopped.ensures in
+    asks_behind c.args.executor c.run_watched.new.executor (planned_still c.args.executor c.run_watched.new.executor made.steps.same) c.requires.fresh _ _ _ made.questions _ (ap events_in c.into_journal-in-Stopped.ensures)
 
 -- the watcher has come on through the transition and its end
 

@@ -1,7 +1,9 @@
 use Rattle.std.proofs.Common.{None, [], inl, inr, refl}
 use Rattle.graph_exec.specs.declared.transition.watcher.Heard.TheVariants as heard
+use Rattle.graph_exec.proofs.Entered.{asks_nothing}
 use Rattle.graph_exec.proofs.Lasts.{source_same, watcher_then, watcher_told}
 use Rattle.graph_exec.proofs.LastsNext.{watcher_unanswered}
+use Rattle.graph_exec.proofs.Questions.{asks_answered, asks_unanswered}
 use Rattle.graph_exec.proofs.Quiet.{ends_unanswered, is_stopped, is_stopped_asking, is_taken}
 use Rattle.graph_exec.proofs.Shown.{shown_answered, shown_unanswered}
 use Rattle.graph_exec.proofs.run.idling.take_idle.Goals as goal
@@ -54,6 +56,21 @@ returns-in-Err-clause-ends g c = ends_unanswered _ _ _ c.args.journal _ _ _ _ _ 
 pub returns-in-Err-clause-watcher : goal.returns-in-Err-clause-watcher
 returns-in-Err-clause-watcher g c =
     watcher_unanswered g.V.Watcher _ _ _ c.args.journal _ _ _ c.in-Err.end c.in-Err.ensures.unanswered c.in_default.ensures.watcher
+
+-- how often the source was asked
+
+pub returns-in-Stop-clause-questions_at_end : goal.returns-in-Stop-clause-questions_at_end
+returns-in-Stop-clause-questions_at_end g c = rw c.into_journal.ensures (asks_nothing _ _)
+
+pub returns-in-Go-clause-questions : goal.returns-in-Go-clause-questions
+returns-in-Go-clause-questions g c = asks_answered c.args.journal _ _ c.in-Ok.ensures.asked c.in-Ok.answer _ c.in-Ok.ensures.answered.took
+
+pub returns-in-Stop-taken-clause-questions_at_end : goal.returns-in-Stop-taken-clause-questions_at_end
+returns-in-Stop-taken-clause-questions_at_end g c =
+    rw c.into_journal-in-Stop-taken.ensures (asks_answered c.args.journal _ _ c.in-Ok.ensures.asked c.in-Ok.answer _ c.in-Ok.ensures.answered.took)
+
+pub returns-in-Err-clause-questions_at_end : goal.returns-in-Err-clause-questions_at_end
+returns-in-Err-clause-questions_at_end g c = asks_unanswered c.args.journal _ _ c.in-Err.ensures.asked _ _ _ _ c.in-Err.end c.in-Err.ensures.unanswered
 
 -- what the watcher has been shown
 

@@ -2,9 +2,11 @@ use Rattle.std.proofs.Common.{ap, inr, length, refl, ◌∙◌}
 use Rattle.graph_exec.specs.declared.transition.ends.End.{End}
 use Rattle.graph_exec.specs.KnownJournals.{KnownJournalOf}
 use Rattle.graph_exec.specs.Inner.KeptTransitions.{passed_end}
+use Rattle.graph_exec.proofs.Entered.{asks_then}
 use Rattle.graph_exec.proofs.Lasts.{source_open, source_same, source_then}
 use Rattle.graph_exec.proofs.LastsNext.{source_keeping}
 use Rattle.graph_exec.proofs.KeptTurns.{ends_cut, ends_failed, ends_unanswered_there, goes_on_aborted, goes_on_answered}
+use Rattle.graph_exec.proofs.Questions.{asks_answered, asks_on, asks_there, asks_unanswered}
 use Rattle.graph_exec.proofs.Ready.{agrees_behind, has_plan, later_cluster}
 use Rattle.graph_exec.proofs.Rests.{leaves_rest}
 use Rattle.graph_exec.proofs.Whole.{events_in}
@@ -128,3 +130,34 @@ returns-in-SourceFault-clause-agrees_at_end g c h =
     agrees_behind c.args.journal c.in-Ok.planned c.in-Ok.ensures.ready _ _ _ _ made.steps (g.S.Outcomes.agrees c.args.outcomes.now)
     (g.S.Outcomes.agrees c.run_transition-end.new.outcomes) (λ d es k a. g.met.S.Outcomes.anew c.run_transition-end.new.outcomes d es k a) made.agrees h _
     (ap events_in (rw c.into_known-later.ensures at c.into_journal-in-SourceFault.ensures))
+
+-- how often it was asked
+
+pub returns-in-Ok-ask_idle-clause-questions : goal.returns-in-Ok-ask_idle-clause-questions
+returns-in-Ok-ask_idle-clause-questions g c =
+    let made = c.in-Complete.ensures in
+    asks_then _ _ _ _ _ _ _
+    (asks_there c.args.journal c.in-Ok.planned c.in-Ok.ensures.ready _ _ _ _ made.steps _ _ _ made.questions _ (ap (λ (x : KnownJournalOf). x.events) c.into_known-later.ensures))
+    (asks_answered c.into_known-later.result _ _ c.in-Ok-ask_idle.ensures.asked c.in-Ok-ask_idle._answer _ c.in-Ok-ask_idle.ensures.answered.took)
+
+pub returns-in-Err-clause-questions_at_end : goal.returns-in-Err-clause-questions_at_end
+returns-in-Err-clause-questions_at_end g c =
+    let made = c.in-Complete.ensures in
+    asks_on _ _ (g.S.Outcomes.asked c.ask_idle.new.outcomes) _ _
+    (asks_there c.args.journal c.in-Ok.planned c.in-Ok.ensures.ready _ _ _ _ made.steps _ _ _ made.questions _ (ap (λ (x : KnownJournalOf). x.events) c.into_known-later.ensures))
+    c.in-Err.ended (asks_unanswered c.into_known-later.result _ _ c.in-Err.ensures.asked _ _ _ _ c.in-Err.ended c.in-Err.ensures.unanswered)
+
+pub returns-in-Aborted-clause-questions : goal.returns-in-Aborted-clause-questions
+returns-in-Aborted-clause-questions g c =
+    let made = c.in-Aborted.ensures in
+    asks_there c.args.journal c.in-Ok.planned c.in-Ok.ensures.ready _ _ _ _ made.steps _ _ _ made.questions _ (ap (λ (x : KnownJournalOf). x.events) c.into_known-later.ensures)
+
+pub returns-in-Unexpected-clause-questions_at_end : goal.returns-in-Unexpected-clause-questions_at_end
+returns-in-Unexpected-clause-questions_at_end g c =
+    let made = c.in-Unexpected.ensures in
+    asks_there c.args.journal c.in-Ok.planned c.in-Ok.ensures.ready _ _ _ _ made.steps.went _ _ _ made.questions _ (ap events_in (rw c.into_known-later.ensures at c.into_journal.ensures))
+
+pub returns-in-SourceFault-clause-questions_at_end : goal.returns-in-SourceFault-clause-questions_at_end
+returns-in-SourceFault-clause-questions_at_end g c =
+    let made = c.in-SourceFault.ensures in
+    asks_there c.args.journal c.in-Ok.planned c.in-Ok.ensures.ready _ _ _ _ made.steps _ _ _ made.questions _ (ap events_in (rw c.into_known-later.ensures at c.into_journal-in-SourceFault.ensures))

@@ -1,8 +1,10 @@
 use Rattle.std.proofs.Common.{arith, ap, length, ◌∙◌}
 use Rattle.graph_exec.specs.KnownJournals.{KnownJournalOf}
 use Rattle.run_safety.proofs.SafeRuns.{safe_run}
+use Rattle.graph_exec.proofs.Entered.{asks_nothing, asks_then}
 use Rattle.graph_exec.proofs.Lasts.{source_open, source_same, source_then}
 use Rattle.graph_exec.proofs.LastsNext.{source_kept}
+use Rattle.graph_exec.proofs.Questions.{asks_kept, asks_on}
 use Rattle.graph_exec.proofs.KeptEnds.{agrees_kept, expected_kept, kept_as, kept_at_rest, kept_in_order, kept_plans, most_in_order, most_kept, most_plans, starts_kept}
 use Rattle.graph_exec.proofs.run.kept_run.replay.Goals as goal
 
@@ -20,6 +22,7 @@ loop-made-init g c = record {
   keeps = starts_kept _ _ _ _ _ c.in-Ok.known c.new-passed.ensures (ap (λ (x : KnownJournalOf). x.events) c.in-Ok.ensures.ok);
   all = ap length c.new-passed.ensures;
   source = source_same g.S.Outcomes g.met.S.Outcomes.from_itself _;
+  questions = rw c.in-Ok.ensures.ok (asks_nothing _ _);
   agrees = λ h. rw c.in-Ok.ensures.ok h;
 }
 
@@ -42,6 +45,7 @@ loop-made-preserved g c =
       keeps = (rw (so_far.cluster_stays, so_far.promotions_stay, so_far.source.whole, so_far.source.steady) at now.goes_on) _ _ so_far.keeps;
       all = omega arith;
       source = source_then g.S.Outcomes g.met.S.Outcomes.from_before g.met.S.Outcomes.said_later _ _ _ _ so_far.source now.source;
+      questions = asks_then _ _ _ _ _ _ _ so_far.questions now.questions;
       agrees = λ h. rw so_far.cluster_stays at (now.agrees (rw so_far.cluster_stays (so_far.agrees h)));
     }
 
@@ -83,6 +87,13 @@ returns-in-Err-clause-fitting g c careful h =
     let so_far = c.loop-made.invariant in
     rw c.kept.ensures (expected_kept _ c.in-Err.end (c.in-Err.ensures.fitting (so_far.source.careful ∙ careful) (rw so_far.cluster_stays (so_far.agrees h))))
 
+pub returns-in-Err-clause-questions : goal.returns-in-Err-clause-questions
+returns-in-Err-clause-questions g c =
+    let now = g.S.Outcomes.asked c.keep_transition.new.outcomes in
+    rw c.kept.ensures
+    (asks_kept (g.S.Outcomes.asked c.args.outcomes.now) now c.args.journal.events _ c.in-Err.end
+    (asks_on _ _ now _ _ c.loop-made.invariant.questions c.in-Err.end c.in-Err.ensures.questions_at_end))
+
 -- as many transitions were made as are allowed
 
 pub returns-clause-run : goal.returns-clause-run
@@ -106,3 +117,6 @@ returns-clause-kept g c =
 
 pub returns-clause-agrees : goal.returns-clause-agrees
 returns-clause-agrees g c h = rw c.into_journal-journal.ensures (c.loop-made.invariant.agrees h)
+
+pub returns-clause-questions : goal.returns-clause-questions
+returns-clause-questions g c = rw c.into_journal-journal.ensures c.loop-made.invariant.questions

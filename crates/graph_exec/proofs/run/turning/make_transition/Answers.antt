@@ -1,8 +1,10 @@
 use Rattle.std.proofs.Common.{◌∙◌, inl, refl}
 use Rattle.graph_exec.specs.declared.transition.watcher.Heard.TheVariants as heard
 use Rattle.graph_exec.specs.Replays.{setting, sight}
+use Rattle.graph_exec.proofs.Entered.{asks_then}
 use Rattle.graph_exec.proofs.Joined.{lacks_memory}
 use Rattle.graph_exec.proofs.Lasts.{rose_since, source_same, source_then, watcher_same, watcher_then, watcher_told}
+use Rattle.graph_exec.proofs.Questions.{asks_carried, asks_carried_end, asks_on, asks_planned}
 use Rattle.graph_exec.proofs.Ready.{came_begun, comes_behind, ends_behind, has_plan, same_cluster, same_promotions, starts_fresh, stops_begun}
 use Rattle.graph_exec.proofs.Served.{serves_again}
 use Rattle.graph_exec.proofs.Shown.{end_behind, shown_behind, shown_end, shown_planned, shown_stopped, shown_there}
@@ -142,6 +144,33 @@ returns-then-not-complete-clause-answer g c = (rw c.in-Ok-with.ensures.1 at c.ca
 pub returns-in-Ok-with-2-clause-answer : goal.returns-in-Ok-with-2-clause-answer
 returns-in-Ok-with-2-clause-answer g c =
     rose_since _ _ _ c.carry_out-carried.ensures.source.answered (rw c.in-Ok-with-2.ensures.1 at c.take_idle-taken.ensures.answer)
+
+-- how often it was asked
+
+pub returns-in-Stop-clause-questions_at_end : goal.returns-in-Stop-clause-questions_at_end
+returns-in-Stop-clause-questions_at_end g c = rw c.stopped.ensures (asks_planned c.args.journal c.in-Ok.planned c.in-Ok.ensures.ready _ _ refl)
+
+pub returns-in-Err-clause-questions_at_end : goal.returns-in-Err-clause-questions_at_end
+returns-in-Err-clause-questions_at_end g c =
+    asks_carried_end c.args.journal c.in-Ok.planned c.in-Ok.ensures.ready (g.S.Outcomes.asked c.args.outcomes.now) (g.S.Outcomes.asked c.carry_out-carried.new.outcomes) c.in-Err.ended
+    (rw c.in-Err.ensures at c.carry_out-carried.ensures.questions_at_end)
+
+pub returns-then-not-complete-clause-questions : goal.returns-then-not-complete-clause-questions
+returns-then-not-complete-clause-questions g c =
+    asks_carried c.args.journal c.in-Ok.planned c.in-Ok.ensures.ready _ _ _ _
+    (rw c.in-Ok-with.ensures.1 at c.carry_out-carried.ensures.questions)
+
+pub returns-in-Ok-with-2-clause-questions : goal.returns-in-Ok-with-2-clause-questions
+returns-in-Ok-with-2-clause-questions g c =
+    let carried = asks_carried c.args.journal c.in-Ok.planned c.in-Ok.ensures.ready _ _ _ _
+    (rw c.in-Ok-with.ensures.1 at c.carry_out-carried.ensures.questions) in
+    asks_then _ _ _ _ _ _ _ carried (rw c.in-Ok-with-2.ensures.1 at c.take_idle-taken.ensures.questions)
+
+pub returns-in-Err-with-clause-questions_at_end : goal.returns-in-Err-with-clause-questions_at_end
+returns-in-Err-with-clause-questions_at_end g c =
+    let carried = asks_carried c.args.journal c.in-Ok.planned c.in-Ok.ensures.ready _ _ _ _
+    (rw c.in-Ok-with.ensures.1 at c.carry_out-carried.ensures.questions) in
+    asks_on _ _ (g.S.Outcomes.asked c.take_idle-taken.new.outcomes) _ _ carried c.in-Err-with.ended (rw c.in-Err-with.ensures at c.take_idle-taken.ensures.questions_at_end)
 
 -- the plan serves again
 

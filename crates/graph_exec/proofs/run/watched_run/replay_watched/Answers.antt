@@ -1,7 +1,9 @@
 use Rattle.std.proofs.Common.{arith, ◌≡◌, ◌≤◌, ◌+◌, ap, refl, ◌∙◌}
 use Rattle.run_safety.proofs.SafeRuns.{safe_run}
 use Rattle.graph_exec.proofs.Aborting.{none_answered, not_most, one_more_answered}
+use Rattle.graph_exec.proofs.Entered.{asks_nothing, asks_then}
 use Rattle.graph_exec.proofs.Lasts.{source_same, source_then, watcher_same, watcher_then}
+use Rattle.graph_exec.proofs.Questions.{asks_on}
 use Rattle.graph_exec.proofs.Ready.{comes_behind, ends_behind}
 use Rattle.graph_exec.proofs.Whole.{events_in, kept, kept_due, nothing_made, replays, rests, starts, up_to}
 use Rattle.graph_exec.proofs.run.watched_run.replay_watched.Goals as goal
@@ -25,6 +27,7 @@ loop-made-init g c = record {
   serves = tt;
   source = source_same g.S.Outcomes g.met.S.Outcomes.from_itself _;
   answers = none_answered _;
+  questions = rw c.in-Ok.ensures.ok (asks_nothing _ _);
   agrees = λ h. rw c.in-Ok.ensures.ok h;
   watcher = watcher_same g.V.Watcher _;
   shown = λ h. rw c.in-Ok.ensures.ok h;
@@ -53,6 +56,7 @@ loop-made-preserved g c =
       serves = rw so_far.came.cluster_stays at now.serves;
       source = source_then g.S.Outcomes g.met.S.Outcomes.from_before g.met.S.Outcomes.said_later _ _ _ _ so_far.source now.source;
       answers = one_more_answered _ _ _ _ so_far.answers now.answer;
+      questions = asks_then _ _ _ _ _ _ _ so_far.questions now.questions;
       agrees = λ h. rw so_far.came.cluster_stays at (now.agrees (rw so_far.came.cluster_stays (so_far.agrees h)));
       watcher = watcher_then g.V.Watcher _ _ _ _ so_far.watcher now.watcher;
       shown = λ h. rw (so_far.came.cluster_stays, so_far.came.promotions_stay) at
@@ -103,6 +107,9 @@ returns-in-Err-clause-shown g c h =
 pub returns-in-Err-clause-answers : goal.returns-in-Err-clause-answers
 returns-in-Err-clause-answers g c = not_most _ _ _ _ _ _ _ c.in-Err.ended _ _ _ c.in-Err.ensures.ends
 
+pub returns-in-Err-clause-questions : goal.returns-in-Err-clause-questions
+returns-in-Err-clause-questions g c = asks_on _ _ (g.S.Outcomes.asked c.make_transition.new.outcomes) _ _ c.loop-made.invariant.questions c.in-Err.ended c.in-Err.ensures.questions_at_end
+
 -- as many transitions were made as are allowed
 
 pub returns-clause-run : goal.returns-clause-run
@@ -127,3 +134,6 @@ pub returns-clause-answers : goal.returns-clause-answers
 returns-clause-answers g c =
     let all : c.loop-made.made ≡ c.args.most = omega arith in
     rw all at c.loop-made.invariant.answers
+
+pub returns-clause-questions : goal.returns-clause-questions
+returns-clause-questions g c = rw c.into_journal.ensures c.loop-made.invariant.questions

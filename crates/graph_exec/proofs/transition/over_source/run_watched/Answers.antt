@@ -4,6 +4,7 @@ use Rattle.graph_exec.specs.declared.transition.watcher.Heard.TheVariants as hea
 use Rattle.graph_exec.specs.WatchedTransitions.{IsShownAll}
 use Rattle.graph_exec.proofs.Aborting.{aborted_on, aborted_then, none_aborted}
 use Rattle.graph_exec.proofs.Carrying.{expected_done, gone_done, gone_further, has_ended_now, went_nowhere, went_on}
+use Rattle.graph_exec.proofs.Entered.{asks_done, asks_none, asks_nothing, asks_one, asks_then}
 use Rattle.graph_exec.proofs.Lasts.{source_done, source_same, source_then, watcher_done, watcher_same, watcher_then}
 use Rattle.graph_exec.proofs.Fewer.{asks_most}
 use Rattle.graph_exec.proofs.Promised.{ends_well, promised}
@@ -16,6 +17,7 @@ pub loop-executor-init : goal.loop-executor-init
 loop-executor-init g c = record {
   went = went_nowhere _ _ _;
   asks = omega arith;
+  questions = asks_nothing _ _;
   aborted = none_aborted _ _ _;
   source = source_same g.S.Outcomes g.met.S.Outcomes.from_itself _;
   said = λ steady h. said_nothing _ _;
@@ -188,6 +190,8 @@ loop-executor-preserved g c =
       went = went_on _ _ _ _ _ _ _ so_far.went
           (went_on _ _ _ _ _ _ _ (rw so_far.source.whole at begun.went) (rw (begun.source.whole, so_far.source.whole) at asked.on.went));
       asks = omega arith;
+      questions = asks_then _ _ _ _ _ _ _ so_far.questions
+          (asks_then _ _ _ _ _ _ _ (asks_none _ _ _ _ _ _ _ begun.went begun.asked) (asks_one _ _ _ _ _ _ _ asked.on asked_now));
       aborted = aborted_on _ _ _ _ _ _ _ _ so_far.source.answered begun.source.answered asked.source.answered so_far.aborted begun.aborted asked.aborted;
       source = source_then g.S.Outcomes g.met.S.Outcomes.from_before g.met.S.Outcomes.said_later _ _ _ _ so_far.source
           (source_then g.S.Outcomes g.met.S.Outcomes.from_before g.met.S.Outcomes.said_later _ _ _ _ begun.source asked.source);
@@ -203,6 +207,23 @@ loop-executor-preserved g c =
           (watcher_then g.V.Watcher _ _ _ _ c.in_default.ensures.watcher asked.watcher);
       shown = λ h. asked.shown (c.in_default.ensures.shown (so_far.shown h));
     }
+
+-- how often the source was asked
+
+pub returns-in-Stop-clause-questions : goal.returns-in-Stop-clause-questions
+returns-in-Stop-clause-questions g c =
+    let begun = c.begin_all.ensures in
+    asks_then _ _ _ _ _ _ _ c.loop-executor.invariant.questions (asks_none _ _ _ _ _ _ _ begun.went begun.asked)
+
+pub returns-then-count-eq0-clause-questions : goal.returns-then-count-eq0-clause-questions
+returns-then-count-eq0-clause-questions g c =
+    let begun = c.begin_all.ensures in
+    asks_done _ _ _ _ _ c.end.ensures.done (asks_then _ _ _ _ _ _ _ c.loop-executor.invariant.questions (asks_none _ _ _ _ _ _ _ begun.went begun.asked))
+
+pub returns-in-Some-clause-questions : goal.returns-in-Some-clause-questions
+returns-in-Some-clause-questions g c =
+    let begun = c.begin_all.ensures in
+    asks_then _ _ _ _ _ _ _ c.loop-executor.invariant.questions (asks_then _ _ _ _ _ _ _ (asks_none _ _ _ _ _ _ _ begun.went begun.asked) c.in-Some.ensures.questions)
 
 -- what the watcher has been shown
 

@@ -3,7 +3,7 @@ use Rattle.graph_exec.specs.declared.transition.watcher.Heard.TheVariants as hea
 use Rattle.graph_exec.specs.WatchedTransitions.{view_of}
 use Rattle.graph_exec.proofs.Aborting.{begin_aborted, none_aborted}
 use Rattle.graph_exec.proofs.Carrying.{fewer_begins, no_more_asks, went_begun, went_nowhere}
-use Rattle.graph_exec.proofs.Lasts.{source_same, source_told, watcher_same, watcher_told}
+use Rattle.graph_exec.proofs.Lasts.{source_same, source_told, watcher_same}
 use Rattle.graph_exec.proofs.Said.{said_begun, said_nothing}
 use Rattle.graph_exec.proofs.Shown.{shown_later}
 use Rattle.graph_exec.proofs.Stepping.{begun_action, begun_high}
@@ -47,17 +47,12 @@ pub returns-clause-told : goal.returns-clause-told
 returns-clause-told g c =
     let graph = rw c.self.view_is at c.flight.ensures.graph in
     let action = begun_action _ _ c.in-Some.number c.in-Some.ensures.begins c.action-action.result (rw (c.graph.ensures ∙ graph) at c.action-action.ensures) in
-    hears_begin _ _ _ _ _ _ _ c.in-Some.number c.in-Some.ensures.begins _ c.begun.ensures.rest (rw action c.begun-2.ensures.follows) (rw action c.begun-2.ensures.stopped)
+    hears_begin _ _ _ _ _ _ _ c.in-Some.number c.in-Some.ensures.begins _ c.begun.ensures.rest (rw action c.tell_begin-heard.ensures.follows) (rw action c.tell_begin-heard.ensures.stopped)
 
 pub returns-clause-source : goal.returns-clause-source
 returns-clause-source g c =
     let told = c.begun.ensures in
     source_told g.S.Outcomes _ _ told.whole told.count told.answered told.careful told.steady told.over told.follows
-
-pub returns-clause-watcher : goal.returns-clause-watcher
-returns-clause-watcher g c =
-    let told = c.begun-2.ensures in
-    watcher_told g.V.Watcher _ _ _ told.same_lines told.count told.cause
 
 -- what the watcher has been shown
 
@@ -69,8 +64,8 @@ returns-clause-shown g c h =
     let begins = c.in-Some.ensures.begins in
     let graph = rw c.self.view_is at c.flight.ensures.graph in
     let action = begun_action _ _ c.in-Some.number begins c.action-action.result (rw (c.graph.ensures ∙ graph) at c.action-action.ensures) in
-    shown_later (g.V.Watcher.shown c.args.watcher.now heard.Go) (g.V.Watcher.shown c.begun-2.new.self c.begun-2.result) _ _ _ begins.goes_on
-    (λ before. rw action (c.begun-2.ensures.shown (view_of c.args.self.now) (begins.begins.action ∙ ap Some action) before)) h
+    shown_later (g.V.Watcher.shown c.args.watcher.now heard.Go) (g.V.Watcher.shown c.tell_begin-heard.new.watcher c.tell_begin-heard.result) _ _ _ begins.goes_on
+    (λ before. rw action (c.tell_begin-heard.ensures.shown (view_of c.args.self.now) (begins.begins.action ∙ ap Some action) before)) h
 
 -- nothing aborts it
 

@@ -3,6 +3,7 @@ use Rattle.graph_exec.specs.declared.transition.watcher.Heard.TheVariants as hea
 use Rattle.graph_exec.specs.WatchedTransitions.{IsShownAll}
 use Rattle.graph_exec.proofs.Aborting.{none_aborted}
 use Rattle.graph_exec.proofs.Carrying.{advanced, ends_by, gone_by, same_by, still_going, went_answered, went_nowhere}
+use Rattle.graph_exec.proofs.Entered.{asks_last, asks_nothing, asks_one}
 use Rattle.graph_exec.proofs.Lasts.{source_same, watcher_then, watcher_told, watcher_untold}
 use Rattle.graph_exec.proofs.Shown.{same_shown, shown_on, shown_taken}
 use Rattle.graph_exec.proofs.Told.{hears_answer, hears_asking, hears_none, hears_on, told_nothing, told_on}
@@ -77,6 +78,17 @@ returns-in-Err-clause-told g c = hears_none _ _ _ _ _ _ _ (c.in_default.ensures.
 pub returns-in-Err-clause-watcher : goal.returns-in-Err-clause-watcher
 returns-in-Err-clause-watcher g c =
     watcher_untold g.V.Watcher _ _ _ _ _ _ _ c.in-Err.end c.in-Err.ensures.stops c.in_default.ensures.watcher
+
+-- how often it was asked
+
+pub returns-in-Stop-clause-questions : goal.returns-in-Stop-clause-questions
+returns-in-Stop-clause-questions g c = asks_nothing _ _
+
+pub returns-in-Stop-taken-clause-questions : goal.returns-in-Stop-taken-clause-questions
+returns-in-Stop-taken-clause-questions g c = asks_one _ _ _ _ _ _ _ (advanced _ _ _ _ _ c.in-Ok.answer c.in-Ok.ensures.answered) c.in-Ok.ensures.asked
+
+pub returns-in-Err-clause-questions : goal.returns-in-Err-clause-questions
+returns-in-Err-clause-questions g c = asks_last _ _ _ _ _ _ _ c.in-Err.end c.in-Err.ensures.stops c.in-Err.ensures.asked
 
 -- what the watcher has been shown
 
