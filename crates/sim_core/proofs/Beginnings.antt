@@ -1,5 +1,5 @@
 -- What reading the head of an input came to, by what the reader of its lines says.
-use Rattle.std.proofs.Common.{◌≡◌, ℕ, ◌-◌, ◌<◌, Option, Some, None, List, [], ◌++◌, length, Ok, Err, IfSome, refl, sym, ap, subst, ◌∙◌, arith}
+use Rattle.std.proofs.Common.{◌≡◌, ℕ, ◌-◌, Option, Some, None, List, [], ◌++◌, length, Err, IfSome, refl, sym, ap, subst, ◌∙◌, arith}
 use Rattle.cluster_io.specs.NextLine.{IsUndecided}
 use Rattle.cluster_io.specs.Readings.{Reading}
 use Rattle.faults.specs.declared.fault.Fault.{Fault}

@@ -44,11 +44,11 @@ abbrev last : List ℕ
 last = codes "%results"
 
 -- both tests say whether a line begins the results
-same_row : (words : List (List ℕ)) (n : ℕ) → results_row (record { line = n; words = words }) ≡ results_line (record { line = n; words = words })
+pub same_row : (words : List (List ℕ)) (n : ℕ) → results_row (record { line = n; words = words }) ≡ results_line (record { line = n; words = words })
 same_row [] n = refl
 same_row (word ∷ words) n = refl
 
-same_rows : (rows : List Line) → list_any results_row rows ≡ list_any results_line rows
+pub same_rows : (rows : List Line) → list_any results_row rows ≡ list_any results_line rows
 same_rows [] = refl
 same_rows (row ∷ rows) = let first = same_row row.words row.line in let others = same_rows rows in rw (first, others) refl
 

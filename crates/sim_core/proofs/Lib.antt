@@ -29,5 +29,10 @@ pub mod InputSteps
 pub mod InputAgain
 pub mod RefusedAgain
 pub mod TraceRead
+pub mod TraceExamples
+pub mod HeadAlone
+pub mod BeforeResults
+pub mod FrontRead
+pub mod ReplayedAgain
 pub mod ReplayAgain
 pub mod WrittenFronts

@@ -1,5 +1,5 @@
 -- What the word `replay` answers says what it has to of the input.
-use Rattle.std.proofs.Common.{◌≡◌, inl, inr, ℕ, Bool, true, Option, Some, None, List, [], IfSome, refl, sym, ap, subst}
+use Rattle.std.proofs.Common.{◌≡◌, inr, ℕ, Bool, Option, Some, None, List, [], IfSome, refl, sym, ap, subst}
 use Rattle.std.proofs.lemmas.Option.{IfSome_then}
 use Rattle.cluster_io.specs.Readings.{Reading}
 use Rattle.cluster_io.proofs.Bearing.{Bears-as, Bears-then}
@@ -15,7 +15,7 @@ use Rattle.live_run.specs.RunReached as run
 use Rattle.live_run.specs.RunReached.{Reaches, results_behind}
 use Rattle.input_reading.specs.declared.input.reading.Head.{Head}
 use Rattle.sim_core.specs.declared.status.Status.{Status}
-use Rattle.sim_core.specs.declared.status.Status.TheVariants.{Done, NoMemory, ReadFault, WriteFault, Refused, Unexpected, TooLarge}
+use Rattle.sim_core.specs.declared.status.Status.TheVariants.{ReadFault, WriteFault}
 use Rattle.sim_core.specs.LiveAnswers.{IsBehindHead, SaysLive, behind_head, of_run, between_two}
 use Rattle.sim_core.specs.Inner.LiveSteps.{IsBehind, StopsBy, status_of}
 use Rattle.sim_core.specs.Replay.{IsTextOfRun, coming_behind}

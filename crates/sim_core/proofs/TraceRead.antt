@@ -122,15 +122,15 @@ module _ (bytes text : List ℕ) (rows : List Line) (n : ℕ) (head : Head) (say
       with_last sections_of (λ all. nothing_yet) bytes (codes "%results") rows (results_mark n) [] are (rw placed_head refl)
       (place-behind results_line rows (results_mark n) [] unended refl)
 
-  module _ (trace : List Line) (out : List RunTextLine) (all_are : reads text ≡ Ok (rows ++ trace_mark n ∷ trace)) (run : read_run_lines head.cluster trace ≡ Ok out) where
+  module _ (m : ℕ) (trace : List Line) (out : List RunTextLine) (all_are : reads text ≡ Ok (rows ++ trace_mark m ∷ trace)) (run : read_run_lines head.cluster trace ≡ Ok out) where
     abbrev all : List Line
-    all = rows ++ trace_mark n ∷ trace
+    all = rows ++ trace_mark m ∷ trace
 
     placed : misplaced (codes "%trace") [] all ≡ None
     placed =
-        misplaced_joined (codes "%trace") [] rows (trace_mark n ∷ trace) (placed_traced [] rows unended placed_front)
+        misplaced_joined (codes "%trace") [] rows (trace_mark m ∷ trace) (placed_traced [] rows unended placed_front)
         (let none = no_trace [] rows placed_front in
-        let others = all_placed (codes "%trace") (rows ++ trace_mark n ∷ []) trace (plain_lines head.cluster [] trace out run) in
+        let others = all_placed (codes "%trace") (rows ++ trace_mark m ∷ []) trace (plain_lines head.cluster [] trace out run) in
         rw (none, others) refl)
 
     sections : sections_with_trace all ≡ Ok (marks_by (codes "%trace") all)
@@ -142,7 +142,7 @@ module _ (bytes text : List ℕ) (rows : List Line) (n : ℕ) (head : Head) (say
     pub trace-is : trace_of text ≡ Ok whole
     unfolding trace_of with_run
     trace-is =
-        with_last sections_with_trace (λ all. with_run (line_behind all)) text (codes "%trace") rows (trace_mark n) trace all_are sections
-        (place-behind trace_line rows (trace_mark n) trace (no_trace [] rows placed_front) refl)
+        with_last sections_with_trace (λ all. with_run (line_behind all)) text (codes "%trace") rows (trace_mark m) trace all_are sections
+        (place-behind trace_line rows (trace_mark m) trace (no_trace [] rows placed_front) refl)
         ∙ (head_first (configuration_in rows) (status_in rows) (λ head. with_run (line_behind all) head trace)
         ∙ (ap (λ (read : Result Head (Fault InputCause)). read >>= (λ head. with_run (line_behind all) head trace)) (sym start ∙ says) ∙ rw run refl))

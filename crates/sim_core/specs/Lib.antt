@@ -20,5 +20,6 @@ pub mod Words
 pub mod Commands
 pub mod Answers
 pub mod CheckedAgain
+pub mod ReplayedAgain
 pub mod Summary
 pub mod LawfulRuns

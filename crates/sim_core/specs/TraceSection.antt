@@ -1,28 +1,28 @@
--- A run that `replay` has written, in the place of the results that it was written for (rule of this project).
-use Rattle.std.specs.Prelude.{◌≡◌, ℕ, List, ◌++◌, codes}
+-- A run that `replay` has written, in the place of the results that it was written for, or behind an input that has none (rule of this project).
+use Rattle.std.specs.Prelude.{◌≡◌, ℕ, if◌then◌else◌, List, [], ◌∷◌, ◌++◌, codes}
+use Rattle.crm_lex.specs.LogicalLines.{line_text}
 use Rattle.crm_lex.specs.RawLines.{raw_lines}
-use Rattle.input_reading.specs.declared.input.reading.Head.{Head}
-use Rattle.sim_core.specs.Replay.{IsHeadRead}
+use Rattle.crm_lex.specs.Words.{words_of}
+use Rattle.live_run.specs.Heads.{begins_results}
+use Rattle.live_run.specs.SourceFollowed.{bytes_of}
 
 -- a text is made of whole lines: what stands behind it begins a line of its own
 abbrev pub AreWholeLines : List ℕ → Type 0
 AreWholeLines front = (behind : List ℕ) → raw_lines (front ++ behind) ≡ raw_lines front ++ raw_lines behind
 
--- the lines that begin the results and a trace
-abbrev pub results_begin : List ℕ
-results_begin = codes "%results\n"
+-- of some logical lines those before the first that begins results, and all where none does. Each is given by its physical lines
+abbrev pub lines_before_results : List (List (List ℕ)) → List (List (List ℕ))
+lines_before_results [] = []
+lines_before_results (lines ∷ more) = if begins_results (words_of (line_text lines)) then [] else lines ∷ lines_before_results more
 
+-- what stands in an input before its results: all of it, where it has none
+abbrev pub before_results : List ℕ → List ℕ
+before_results input = bytes_of (lines_before_results (raw_lines input))
+
+-- the line that begins a trace
 abbrev pub trace_begins : List ℕ
 trace_begins = codes "%trace\n"
 
--- these lines, result lines behind them, and a trace in the place of those
-abbrev pub with_result_section : List ℕ → List ℕ → List ℕ
-with_result_section front results = (front ++ results_begin) ++ results
-
+-- an input with a trace in the place of its results, or behind it where it has none
 abbrev pub with_trace_section : List ℕ → List ℕ → List ℕ
-with_trace_section front trace = (front ++ trace_begins) ++ trace
-
--- of the input with these result lines behind these lines, the head is read, and ends with the line that begins the results
-pub record IsHeadBefore (front results : List ℕ) (head : Head) (next room : ℕ) : Type 0 where
-  pub whole_lines : AreWholeLines front
-  pub begun : IsHeadRead (with_result_section front results) (front ++ results_begin) head next room
+with_trace_section input trace = (before_results input ++ trace_begins) ++ trace

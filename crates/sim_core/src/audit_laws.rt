@@ -8,11 +8,10 @@ ghost use Rattle.cluster_types.specs.declared.journal.Journal.{Journal as Journa
 ghost use Rattle.cluster_types.specs.declared.run.RunLine.{RunLine as LineOf};
 ghost use Rattle.cluster_types.specs.Runs.{IsWholeRun};
 ghost use Rattle.sim_core.specs.declared.verdict.Clause.{Clause as ClauseOf};
-ghost use Rattle.input_reading.specs.declared.input.reading.Head.{Head as HeadOf};
 ghost use Rattle.sim_core.specs.Audit.{IsAuditOutput, lawful_text};
 ghost use Rattle.sim_core.specs.LawfulRuns.{IsFaultyPlace, IsLawfulRun};
 ghost use Rattle.sim_core.specs.Replay.{IsReplayOutput};
-ghost use Rattle.sim_core.specs.TraceSection.{IsHeadBefore, with_result_section, with_trace_section};
+ghost use Rattle.sim_core.specs.TraceSection.{AreWholeLines, before_results, with_trace_section};
 ghost use Rattle.sim_core.specs.declared.status.Status.TheVariants.{Done};
 
 /// A run with a line that isn't the due one isn't lawful.
@@ -33,9 +32,10 @@ pub fn whole_runs_are_lawful()
         → IsWholeRun c journal.promotions whole journal.events rest lines left → IsLawfulRun c journal lines }
 {}
 
-/// What `replay` writes of an input is lawful in the place of its results: with status 0 for the lines of a head, a line `%results` and result lines, `audit`
-/// writes `lawful` for the lines of the head, a line `%trace` and that text.
+/// What `replay` writes of an input with status 0 is lawful in the place of its results, and behind the input where it has none: `audit` writes `lawful` for what
+/// stands before the results, a line `%trace` and that text. What stands before is to be whole lines, so that `%trace` begins one of its own: the last line of an
+/// input without results has its line end. (An input of more than 16 MiB is none to the program: of a run that is so long it says that, with status 7.)
 pub fn what_replay_writes_is_lawful()
-    ensures { (front results text : List ℕ) (head : HeadOf) (next room : ℕ) → IsHeadBefore front results head next room
-        → IsReplayOutput (with_result_section front results) Done text → IsAuditOutput (with_trace_section front text) Done lawful_text }
+    ensures { (input text : List ℕ) → AreWholeLines (before_results input) → IsReplayOutput input Done text
+        → IsAuditOutput (with_trace_section input text) Done lawful_text }
 {}

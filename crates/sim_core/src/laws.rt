@@ -20,10 +20,12 @@ ghost use Rattle.sim_core.specs.Commands.{Gets};
 ghost use Rattle.sim_core.specs.GenSummary.{IsSummaryText};
 ghost use Rattle.sim_core.specs.Headline.{IsSafeOutput};
 ghost use Rattle.sim_core.specs.Replay.{IsReplayOutput};
+ghost use Rattle.sim_core.specs.ReplayedAgain.{IsRunReadAgain};
 ghost use Rattle.sim_core.specs.LineByLine.{ComesLineByLine, HasPlainRest, HasRefusedLine, IsRefusedByLine};
 ghost use Rattle.sim_core.specs.SafeTexts.{IsSummaryOfSafeRun, IsTextOfSafeWorld};
 ghost use Rattle.sim_core.specs.World.{IsWorldOf};
 ghost use Rattle.sim_core.specs.declared.status.Status.{Status as StatusOf};
+ghost use Rattle.sim_core.specs.declared.status.Status.TheVariants.{Done, Unexpected};
 ghost use Rattle.sim_core.specs.declared.words.Command.{Command as CommandOf};
 
 /// With each word an input gets at most one exit status and one text.
@@ -44,6 +46,12 @@ pub fn what_check_writes_is_read_again()
 /// complete transition ends in its targets. What stands written with any other status is a front of that run (`WritesASafeRun`, a clause of `run`).
 pub fn what_replay_writes_is_one_safe_run()
     ensures { (input text : List ℕ) (outcome : StatusOf) → IsReplayOutput input outcome text → IsSafeOutput input outcome text }
+{}
+
+/// What `replay` writes with status 0 or 6 is read again as the lines of its run, whatever the input: with 6 the last of them is `unexpected LINE`.
+pub fn what_replay_writes_is_read_again()
+    ensures whole { (input text : List ℕ) → IsReplayOutput input Done text → IsRunReadAgain input text }
+    ensures cut { (input text : List ℕ) → IsReplayOutput input Unexpected text → IsRunReadAgain input text }
 {}
 
 /// The run of a valid cluster gets an end and a text, from any journal on and over whatever is to come of result lines, as long as that doesn't say that their

@@ -52,7 +52,7 @@ pub use help::{HELP, VERSION};
 pub use laws::{
     outputs_are_unique, summaries_are_unique, there_is_an_end, what_check_writes_is_read_again,
     what_comes_is_the_input, what_gen_sums_up_is_a_safe_run, what_replay_writes_is_one_safe_run,
-    what_world_writes_is_a_safe_run,
+    what_replay_writes_is_read_again, what_world_writes_is_a_safe_run,
 };
 pub use status::Status;
 pub use top::run;

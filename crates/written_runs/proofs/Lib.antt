@@ -5,6 +5,8 @@ pub mod TargetLines
 pub mod StepLines
 pub mod WrittenLines
 pub mod ReadFits
+pub mod LineNumbers
+pub mod RunsAgain
 pub mod Telling
 pub mod SafeLines
 pub mod Fronts

@@ -1,6 +1,6 @@
 //! Each law is a function that does nothing, and whose contract is the law.
 
-ghost use Rattle.std.specs.Prelude.{◌<◌, ◌+◌, ◌^◌, ◌∷◌, ◌++◌, ℕ, Bool, List, [], Option, Some, length, map};
+ghost use Rattle.std.specs.Prelude.{◌<◌, ◌≤◌, ◌+◌, ◌^◌, ◌∷◌, ◌++◌, ℕ, Bool, List, [], Option, Some, length, map, Contains};
 ghost use Rattle.std.specs.List.{AllByRecursion};
 ghost use Rattle.cluster_types.specs.declared.cluster.Cluster.{Cluster as ClusterOf};
 ghost use Rattle.cluster_types.specs.declared.journal.Answer.{Answer as AnswerOf};
@@ -13,7 +13,7 @@ ghost use Rattle.cluster_types.specs.Valid.{IsValid};
 ghost use Rattle.run_safety.specs.TwoRuns.{transition_number_at};
 ghost use Rattle.input_reading.specs.declared.input.reading.Input.{Input as InputOf};
 ghost use Rattle.input_reading.specs.declared.results.result_lines.ResultLine.{ResultLine as ResultOf};
-ghost use Rattle.input_reading.specs.Reading.{ReadsInput};
+ghost use Rattle.input_reading.specs.Reading.{ReadsInput, most_bytes};
 ghost use Rattle.input_reading.specs.PrintedLines.{IsLineOf, IsNumber, ReadsAgain};
 ghost use Rattle.input_reading.specs.ResultFields.{AnswerFieldsFit};
 ghost use Rattle.written_runs.specs.Fitting.{AnswersFit, IntervalsFit};
@@ -46,17 +46,25 @@ pub fn texts_of_runs_read_again()
         → ReadsAgain c ((told ++ call) ++ closing) }
 {}
 
-/// What is read of a text is so: the intervals of its monitors have 32 bits, and its answers are few. (That its exit codes and the intervals of its reports
-/// fit is a law of `input_reading`.)
+/// What is read of a text is so: the intervals of its monitors have 32 bits, its answers are few, and the lines of its answers have numbers of 32 bits, where
+/// the text has at most 16 MiB. (That its exit codes and the intervals of its reports fit is a law of `input_reading`.)
 pub fn what_is_read_fits()
     ensures intervals { (text : List ℕ) (input : InputOf) → ReadsInput text input → IntervalsFit input.head.cluster }
     ensures few { (text : List ℕ) (input : InputOf) → ReadsInput text input → length (map (λ (result : ResultOf). result.answer) input.results) + 1 < 2 ^ 32 }
+    ensures lines { (text : List ℕ) (input : InputOf) → ReadsInput text input → length text ≤ most_bytes
+        → AllByRecursion (λ (result : ResultOf). IsNumber result.line) input.results }
 {}
 
-/// So the run of a text reads again, whatever the text.
+/// So the run of a text reads again, whatever the text: a whole run; and of a text of at most 16 MiB one that is cut by an answer of the text, with the line
+/// `unexpected LINE` behind its lines.
 pub fn runs_of_texts_read_again()
-    ensures { (text : List ℕ) (input : InputOf) (whole : Bool) (left : List EventOf) (lines : List LineOf) → ReadsInput text input
+    ensures whole_run { (text : List ℕ) (input : InputOf) (whole : Bool) (left : List EventOf) (lines : List LineOf) → ReadsInput text input
         → IsWholeRun input.head.cluster input.head.journal.promotions whole input.head.journal.events
         (Some (map (λ (result : ResultOf). result.answer) input.results)) lines left
         → ReadsAgain input.head.cluster lines }
+    ensures cut { (text : List ℕ) (input : InputOf) (whole : Bool) (result : ResultOf) (left : List EventOf) (behind : Option (List AnswerOf)) (lines : List LineOf)
+        → ReadsInput text input → length text ≤ most_bytes → Contains input.results result
+        → IsCutRun input.head.cluster input.head.journal.promotions whole input.head.journal.events
+        (Some (map (λ (result : ResultOf). result.answer) input.results)) lines left result.answer behind
+        → ReadsAgain input.head.cluster (lines ++ line.Unexpected result.line ∷ []) }
 {}
