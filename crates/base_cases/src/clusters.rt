@@ -1,8 +1,9 @@
 //! What `cluster_model` resolves, and which statement is at fault.
 
+use crate::checked::assert_row;
 use crate::resolved_texts::{cluster, crm, shown};
 use cluster_model::{ModelCause, ModelFault, expand, resolve};
-use cluster_types::{Cluster, Colocation, Location, Node, Order, Role, RuleLocation};
+use cluster_types::{Cluster, Colocation, LeafId, Location, Node, Order, Role, RuleLocation};
 use std::alloc::{AllocError, Global};
 use std::process::Abort;
 use std::str;
@@ -62,7 +63,7 @@ fn is_told(rt: &impl Abort, alloc: Global, part: Part, text: &str, want: &str) -
 
 fn assert_told(rt: &impl Abort, alloc: Global, part: Part, rows: &[Row]) {
     for (text, want) in rows {
-        assert!(rt; is_told(rt, alloc, part, text, want), "{text}");
+        assert_row(rt, is_told(rt, alloc, part, text, want), text);
     }
 }
 
@@ -117,17 +118,25 @@ fn shown_role(role: Role) -> &'static str {
     }
 }
 
+/// A leaf and a role, behind a space.
+fn tell_side(told: &mut String, leaf: LeafId, role: Role) -> Result<(), AllocError> {
+    let role = shown_role(role);
+    write!(told, " {leaf}{role}")
+}
+
 fn tell_location(told: &mut String, rule: &Location) -> Result<(), AllocError> {
-    let (id, role, points) = (shown(&rule.id), shown_role(rule.role), rule.score.points);
-    let (leaf, node) = (rule.leaf, rule.node);
-    write!(told, "{id} {leaf}{role} {points} {node};")
+    told.push_str(shown(&rule.id))?;
+    tell_side(told, rule.leaf, rule.role)?;
+    let (points, node) = (rule.score.points, rule.node);
+    write!(told, " {points} {node};")
 }
 
 /// The rule itself is told by how many tests it has.
 fn tell_rule_location(told: &mut String, rule: &RuleLocation) -> Result<(), AllocError> {
-    let (id, role, points) = (shown(&rule.id), shown_role(rule.role), rule.score.points);
-    let (leaf, all, tests) = (rule.leaf, rule.rule.all, rule.rule.tests.len());
-    write!(told, "{id} {leaf}{role} {points} {all} {tests};")
+    told.push_str(shown(&rule.id))?;
+    tell_side(told, rule.leaf, rule.role)?;
+    let (points, all, tests) = (rule.score.points, rule.rule.all, rule.rule.tests.len());
+    write!(told, " {points} {all} {tests};")
 }
 
 fn all_locations(rt: &impl Abort, alloc: Global, cluster: &Cluster) -> String {
@@ -167,14 +176,11 @@ fn locations_of_clusters(rt: HostRuntime) {
 }
 
 fn tell_colocation(told: &mut String, rule: &Colocation) -> Result<(), AllocError> {
-    let (id, points) = (shown(&rule.id), rule.score.points);
-    let (dependent, primary) = (rule.dependent, rule.primary);
-    let role = shown_role(rule.dependent_role);
-    let primary_role = shown_role(rule.primary_role);
-    write!(
-        told,
-        "{id} {dependent}{role} {primary}{primary_role} {points};"
-    )
+    told.push_str(shown(&rule.id))?;
+    tell_side(told, rule.dependent, rule.dependent_role)?;
+    tell_side(told, rule.primary, rule.primary_role)?;
+    let points = rule.score.points;
+    write!(told, " {points};")
 }
 
 fn all_colocations(rt: &impl Abort, alloc: Global, cluster: &Cluster) -> String {
@@ -324,46 +330,49 @@ const FAULTS: &[(&str, Option<(u32, ModelCause)>)] = &[
 #[test]
 fn faults_by_statement(rt: HostRuntime) {
     for (text, want) in FAULTS {
-        assert!(rt; fault(&rt, rt.alloc(), text) == *want, "{text}");
+        assert_row(&rt, fault(&rt, rt.alloc(), text) == *want, text);
     }
 }
 
-/// The text, and then so many lines that each end in a number of their own.
-fn with_lines(rt: &impl Abort, alloc: Global, text: &str, line: &str, count: u32) -> String {
-    let mut whole = String::new(alloc);
-    whole.push_str(text).expect(rt, "memory");
-    for number in 0..count {
-        write!(whole, "|{line}{number} a 1: n").expect(rt, "memory");
+/// How a text begins, and then lines that are alike but for a number: how each begins and ends.
+type Alike = (&'static str, &'static str, &'static str);
+
+const NODES_ALIKE: Alike = ("node n", "|node n", "");
+
+const RULES_ALIKE: Alike = (
+    "node n|primitive a Dummy|primitive b Dummy|group g a b",
+    "|location l",
+    " a 1: n",
+);
+
+/// The text, and then so many lines, of which the last has the number `count`.
+fn with_lines(rt: &impl Abort, alloc: Global, alike: Alike, count: u32) -> String {
+    let (text, begin, end) = alike;
+    let mut whole = String::from_str(alloc, text).expect(rt, "memory");
+    for number in 1..=count {
+        write!(whole, "{begin}{number}{end}").expect(rt, "memory");
     }
     whole
 }
 
-fn nodes_in_lines(rt: &impl Abort, alloc: Global, count: u32) -> String {
-    let mut whole = String::new(alloc);
-    whole.push_str("node n").expect(rt, "memory");
-    for number in 1..count {
-        write!(whole, "|node n{number}").expect(rt, "memory");
-    }
-    whole
+/// The fault of such a text.
+fn fault_of(rt: &impl Abort, alloc: Global, alike: Alike, count: u32) -> Option<(u32, ModelCause)> {
+    let text = with_lines(rt, alloc, alike, count);
+    fault(rt, alloc, text.as_str())
 }
 
 #[test]
 fn limits_of_nodes(rt: HostRuntime) {
     let alloc = rt.alloc();
-    let most = nodes_in_lines(&rt, alloc, 256);
-    assert!(rt; fault(&rt, alloc, most.as_str()).is_none());
-    let more = nodes_in_lines(&rt, alloc, 257);
-    let found = fault(&rt, alloc, more.as_str());
+    assert!(rt; fault_of(&rt, alloc, NODES_ALIKE, 255).is_none());
+    let found = fault_of(&rt, alloc, NODES_ALIKE, 256);
     assert!(rt; found == Some((257, ModelCause::TooManyNodes)));
 }
 
 #[test]
 fn limits_of_rules(rt: HostRuntime) {
     let alloc = rt.alloc();
-    let start = "node n|primitive a Dummy|primitive b Dummy|group g a b";
-    let most = with_lines(&rt, alloc, start, "location l", 1_998);
-    assert!(rt; fault(&rt, alloc, most.as_str()).is_none());
-    let more = with_lines(&rt, alloc, start, "location l", 1_999);
-    let found = fault(&rt, alloc, more.as_str());
+    assert!(rt; fault_of(&rt, alloc, RULES_ALIKE, 1_998).is_none());
+    let found = fault_of(&rt, alloc, RULES_ALIKE, 1_999);
     assert!(rt; found == Some((2_003, ModelCause::TooManyRules)));
 }

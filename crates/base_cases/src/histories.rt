@@ -3,6 +3,7 @@
 ghost use Rattle.std.specs.Prelude.{◌≡◌, ◌<◌, ◌^◌};
 ghost use Rattle.cluster_types.specs.Journals.{moment_of};
 
+use crate::checked::{assert_number, assert_row};
 use crate::resolved_texts::cluster;
 use cluster_types::{Answer, Journal};
 use crm_lex::{Line, WordBuf, lex_one, logical_lines};
@@ -30,6 +31,33 @@ fn lines(rt: &impl Abort, alloc: Global, text: &str) -> Vec<Line> {
 
 /// A status, and its first journal after the joins, or its fault.
 type Row = (&'static str, &'static str);
+
+/// What is asked with the names of a configuration.
+#[derive(Clone, Copy)]
+enum Asked {
+    Statuses(&'static [Row]),
+    Results(&'static [Row]),
+    /// As many results as may be, and one more.
+    Many,
+    /// Result lines one by one.
+    Lines(&'static [OneLine]),
+}
+
+fn ask_with(rt: &impl Abort, alloc: Global, names: &Names<'_>, asked: Asked) {
+    match asked {
+        Asked::Statuses(rows) => assert_statuses(rt, alloc, names, rows),
+        Asked::Results(rows) => assert_results(rt, alloc, names, rows),
+        Asked::Many => ask_for_many(rt, alloc, names),
+        Asked::Lines(rows) => assert_lines(rt, alloc, names, rows),
+    }
+}
+
+/// One function owns the cluster and its names for all of these tests: each drop of them is proved.
+fn ask(rt: &impl Abort, alloc: Global, configuration: &str, asked: Asked) {
+    let cluster = cluster(rt, alloc, configuration);
+    let names = Names::new(alloc, &cluster).expect(rt, "memory");
+    ask_with(rt, alloc, &names, asked);
+}
 
 const JOURNALS: &[Row] = &[
     (
@@ -180,16 +208,19 @@ fn status(rt: &impl Abort, alloc: Global, names: &Names<'_>, text: &str) -> Stri
 fn assert_statuses(rt: &impl Abort, alloc: Global, names: &Names<'_>, rows: &[Row]) {
     for (text, want) in rows {
         let read = status(rt, alloc, names, text);
-        assert!(rt; read.as_str() == *want, "{text:?}");
+        assert_row(rt, read.as_str() == *want, text);
     }
 }
 
 #[test]
 fn statuses_are_read(rt: HostRuntime) {
-    let cluster = cluster(&rt, rt.alloc(), CONFIGURATION);
-    let names = Names::new(rt.alloc(), &cluster).expect(&rt, "memory");
-    assert_statuses(&rt, rt.alloc(), &names, JOURNALS);
-    assert_statuses(&rt, rt.alloc(), &names, STATUS_FAULTS);
+    ask(&rt, rt.alloc(), CONFIGURATION, Asked::Statuses(JOURNALS));
+    ask(
+        &rt,
+        rt.alloc(),
+        CONFIGURATION,
+        Asked::Statuses(STATUS_FAULTS),
+    );
 }
 
 const UNSAID_IS_DOWN: &[Row] = &[(
@@ -199,9 +230,8 @@ const UNSAID_IS_DOWN: &[Row] = &[(
 
 #[test]
 fn unsaid_nodes_are_down_without_startup_fencing(rt: HostRuntime) {
-    let cluster = cluster(&rt, rt.alloc(), WITHOUT_STARTUP_FENCING);
-    let names = Names::new(rt.alloc(), &cluster).expect(&rt, "memory");
-    assert_statuses(&rt, rt.alloc(), &names, UNSAID_IS_DOWN);
+    let asked = Asked::Statuses(UNSAID_IS_DOWN);
+    ask(&rt, rt.alloc(), WITHOUT_STARTUP_FENCING, asked);
 }
 
 /// Result lines that are taken at the moment 1000, and their answers or their fault.
@@ -302,15 +332,13 @@ fn results(rt: &impl Abort, alloc: Global, names: &Names<'_>, text: &str) -> Str
 fn assert_results(rt: &impl Abort, alloc: Global, names: &Names<'_>, rows: &[Row]) {
     for (text, want) in rows {
         let read = results(rt, alloc, names, text);
-        assert!(rt; read.as_str() == *want, "{text:?}");
+        assert_row(rt, read.as_str() == *want, text);
     }
 }
 
 #[test]
 fn results_are_read(rt: HostRuntime) {
-    let cluster = cluster(&rt, rt.alloc(), CONFIGURATION);
-    let names = Names::new(rt.alloc(), &cluster).expect(&rt, "memory");
-    assert_results(&rt, rt.alloc(), &names, RESULTS);
+    ask(&rt, rt.alloc(), CONFIGURATION, Asked::Results(RESULTS));
 }
 
 /// What is read of so many lines that let no time go by, and a last one.
@@ -341,9 +369,7 @@ fn ask_for_many(rt: &impl Abort, alloc: Global, names: &Names<'_>) {
 
 #[test]
 fn ten_thousand_results_are_read(rt: HostRuntime) {
-    let cluster = cluster(&rt, rt.alloc(), CONFIGURATION);
-    let names = Names::new(rt.alloc(), &cluster).expect(&rt, "memory");
-    ask_for_many(&rt, rt.alloc(), &names);
+    ask(&rt, rt.alloc(), CONFIGURATION, Asked::Many);
 }
 
 /// A moment, how many results came before, the bytes of a line, and its answer or its fault.
@@ -428,14 +454,16 @@ fn is_read(
     shown.as_str() == row.3
 }
 
+fn assert_lines(rt: &impl Abort, alloc: Global, names: &Names<'_>, rows: &[OneLine]) {
+    let mut words = WordBuf::new(alloc).expect(rt, "memory");
+    for row in rows {
+        assert!(rt; is_read(rt, alloc, names, &mut words, row));
+    }
+}
+
 #[test]
 fn results_are_read_line_by_line(rt: HostRuntime) {
-    let cluster = cluster(&rt, rt.alloc(), CONFIGURATION);
-    let names = Names::new(rt.alloc(), &cluster).expect(&rt, "memory");
-    let mut words = WordBuf::new(rt.alloc()).expect(&rt, "memory");
-    for row in LINES {
-        assert!(rt; is_read(&rt, rt.alloc(), &names, &mut words, row));
-    }
+    ask(&rt, rt.alloc(), CONFIGURATION, Asked::Lines(LINES));
 }
 
 /// Exit codes and their classes.
@@ -456,7 +484,7 @@ const CLASSES: &[(u8, Recovery)] = &[
 #[test]
 fn codes_have_their_class(rt: HostRuntime) {
     for (code, class) in CLASSES {
-        assert!(rt; class_of(*code) == *class, "{code}");
+        assert_number(&rt, class_of(*code) == *class, i64::from(*code));
     }
 }
 

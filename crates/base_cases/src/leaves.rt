@@ -1,5 +1,6 @@
 //! What `expand` makes of primitives, groups and clones, and which statement is at fault.
 
+use crate::checked::assert_row;
 use crate::resolved_texts::{crm, shown};
 use cluster_model::{ExpandCause, ExpandFault, Leaves, expand};
 use cluster_types::Leaf;
@@ -56,7 +57,7 @@ fn is_told(rt: &impl Abort, alloc: Global, part: Part, text: &str, want: &str) -
 
 fn assert_told(rt: &impl Abort, alloc: Global, part: Part, rows: &[Row]) {
     for (text, want) in rows {
-        assert!(rt; is_told(rt, alloc, part, text, want), "{text}");
+        assert_row(rt, is_told(rt, alloc, part, text, want), text);
     }
 }
 
@@ -192,7 +193,7 @@ const SPANS: &[Row] = &[
 #[test]
 fn spans_of_resources(rt: HostRuntime) {
     for (text, want) in SPANS {
-        assert!(rt; has_spans(&rt, rt.alloc(), text, want), "{text}");
+        assert_row(&rt, has_spans(&rt, rt.alloc(), text, want), text);
     }
 }
 
@@ -267,6 +268,6 @@ const FAULTS: &[(&str, Option<(u32, ExpandCause)>)] = &[
 #[test]
 fn faults_by_statement(rt: HostRuntime) {
     for (text, want) in FAULTS {
-        assert!(rt; fault(&rt, rt.alloc(), text) == *want, "{text}");
+        assert_row(&rt, fault(&rt, rt.alloc(), text) == *want, text);
     }
 }

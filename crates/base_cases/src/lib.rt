@@ -3,6 +3,10 @@
 //! They stand in a crate of their own, since the tests of a crate are proved together with all of its code once more.
 #![tactic(auto)]
 
+// What names the row of a table that doesn't hold.
+#[cfg(test)]
+mod checked;
+
 // Plain values.
 #[cfg(test)]
 mod first_loops;

@@ -1,5 +1,6 @@
 //! What `crm_lex` cuts a text into, and the first fault of a text.
 
+use crate::checked::assert_number;
 use crate::reading::LINES;
 use crm_lex::{LexCause, LexFault, Line, WordBuf, lex_one, line_count, logical_lines};
 use std::alloc::Global;
@@ -255,7 +256,7 @@ fn control_bytes_are_refused(rt: HostRuntime) {
     for byte in 0..128u8 {
         let text = [b'a', b'\n', byte, b'b'];
         let refused = is_read(&rt, rt.alloc(), &text, "2 ControlByte");
-        assert!(rt; refused == is_control(byte), "{byte}");
+        assert_number(&rt, refused == is_control(byte), i64::from(byte));
     }
 }
 

@@ -1,5 +1,6 @@
 //! Which moment a text says.
 
+use crate::checked::assert_number;
 use date_rules::instant;
 
 // The seconds are those that `date -u -d TEXT +%s` of GNU coreutils wrote.
@@ -43,7 +44,7 @@ const MOMENTS: &[(&[u8], i64)] = &[
 #[test]
 fn texts_that_say_a_moment(rt: HostRuntime) {
     for (text, seconds) in MOMENTS {
-        assert!(rt; instant(text) == Some(*seconds), "{seconds}");
+        assert_number(&rt, instant(text) == Some(*seconds), *seconds);
     }
 }
 

@@ -4,6 +4,7 @@ mod examples;
 mod forms;
 mod quoting;
 
+use crate::checked::assert_row;
 use crate::reading::crm;
 use crm_print::print;
 use std::alloc::Global;
@@ -21,7 +22,7 @@ fn is_printed(rt: &impl Abort, alloc: Global, text: &str, want: &str) -> bool {
 /// Each text is printed as its canonical text, and so is that.
 fn assert_printed(rt: &impl Abort, alloc: Global, table: &[Row]) {
     for (text, want) in table {
-        assert!(rt; is_printed(rt, alloc, text, want), "{text}");
-        assert!(rt; is_printed(rt, alloc, want, want), "{want}");
+        assert_row(rt, is_printed(rt, alloc, text, want), text);
+        assert_row(rt, is_printed(rt, alloc, want, want), want);
     }
 }

@@ -4,6 +4,7 @@ ghost use Rattle.std.specs.Prelude.{◌≡◌, ℕ, ◌+◌, ◌<◌, ◌≤◌,
 ghost use Rattle.score.specs.NodeSet.{has};
 ghost use Rattle.score.specs.Inner.SmallRows.{IsSmallRow};
 
+use crate::checked::assert_number;
 use score::{
     NodeSet, Row, Score, add_row, add_row_plain, candidates, candidates_plain, greatest,
     greatest_plain, totals, totals_plain,
@@ -102,7 +103,7 @@ fn totals_of_the_table(rt: HostRuntime) {
     for nodes in LENGTHS {
         assert!(rt; *nodes <= 256);
         let row = whole_row(&rt, rt.alloc(), *nodes);
-        assert!(rt; has_expected_totals(&row, *nodes), "{nodes} nodes");
+        assert_number(&rt, has_expected_totals(&row, *nodes), i64::from(*nodes));
     }
 }
 
@@ -133,7 +134,8 @@ fn has_expected_sums(rt: &impl Abort, alloc: Global, nodes: u32) -> bool
 fn sums_of_the_table(rt: HostRuntime) {
     for nodes in LENGTHS {
         assert!(rt; *nodes <= 256);
-        assert!(rt; has_expected_sums(&rt, rt.alloc(), *nodes), "{nodes} nodes");
+        let holds = has_expected_sums(&rt, rt.alloc(), *nodes);
+        assert_number(&rt, holds, i64::from(*nodes));
     }
 }
 
@@ -190,7 +192,7 @@ fn finds_candidates(nodes: u32) -> bool
 fn candidates_of_the_table(rt: HostRuntime) {
     for nodes in LENGTHS {
         assert!(rt; *nodes <= 256);
-        assert!(rt; finds_candidates(*nodes), "{nodes} nodes");
+        assert_number(&rt, finds_candidates(*nodes), i64::from(*nodes));
     }
 }
 

@@ -1,5 +1,6 @@
 //! Totals of scores, and their texts.
 
+use crate::checked::assert_row;
 use score::{Score, total};
 use std::process::Abort;
 
@@ -80,7 +81,7 @@ fn says(text: &[u8], want: Option<i32>) -> bool {
 #[test]
 fn scores_are_read(rt: HostRuntime) {
     for (text, want) in READ {
-        assert!(rt; says(text.as_bytes(), *want), "{text}");
+        assert_row(&rt, says(text.as_bytes(), *want), text);
     }
     assert!(rt; says(b"\xff", None));
 }
@@ -107,6 +108,6 @@ fn is_written(rt: &impl Abort, points: i32, want: &str) -> bool {
 #[test]
 fn scores_are_written(rt: HostRuntime) {
     for (points, want) in WRITTEN {
-        assert!(rt; is_written(&rt, *points, want), "{want}");
+        assert_row(&rt, is_written(&rt, *points, want), want);
     }
 }

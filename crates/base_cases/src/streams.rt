@@ -2,6 +2,7 @@
 
 ghost use Rattle.std.specs.Prelude.{◌≡◌, ◌<◌, false};
 
+use crate::checked::assert_number;
 use cluster_io::{
     HeldLines, LineReader, LineStep, MemorySink, MemorySource, NoMemory, ReadEnd, ReadStep, Sink,
     Source, StdSink, StdSource, WriteFault, WriteStep, read_all, write_text,
@@ -79,7 +80,11 @@ fn interrupted_read(times: u32, inner: &[u8]) -> ReadStep {
 #[test]
 fn interrupted_reads_from_std(rt: HostRuntime) {
     for (times, inner, want) in INTERRUPTED_READS {
-        assert!(rt; interrupted_read(*times, inner) == *want, "{times}");
+        assert_number(
+            &rt,
+            interrupted_read(*times, inner) == *want,
+            i64::from(*times),
+        );
     }
 }
 
@@ -112,7 +117,8 @@ fn interrupted_write(times: u32, inner: &mut [u8]) -> WriteStep {
 fn interrupted_writes_to_std(rt: HostRuntime) {
     for (times, want) in INTERRUPTED_WRITES {
         let mut buf = [0u8; 4];
-        assert!(rt; interrupted_write(*times, &mut buf) == *want, "{times}");
+        let holds = interrupted_write(*times, &mut buf) == *want;
+        assert_number(&rt, holds, i64::from(*times));
     }
     assert!(rt; interrupted_write(1, &mut []) == WriteStep::Failed);
 }

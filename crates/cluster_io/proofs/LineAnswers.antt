@@ -6,7 +6,7 @@ use Rattle.std.proofs.lemmas.List.{append-nil, length-append, length_push}
 use Rattle.std.proofs.lemmas.List.Folds.{concat-append}
 use Rattle.crm_lex.specs.RawLines.{physical_lines, joined, goes_on, content, ends_in}
 use Rattle.cluster_io.specs.NextLine.{has_feed, first_line_of, first_line, content_within, line_answer, reader_answer}
-use Rattle.cluster_io.specs.Scanning.{Joins, physical_content_length}
+use Rattle.cluster_io.specs.Inner.Scanning.{Joins, physical_content_length}
 use Rattle.cluster_io.specs.Inner.FoundLines.{before_feed}
 use Rattle.cluster_io.specs.declared.line_step.LineStep.TheVariants.{Line, TooLong, TooLarge}
 use Rattle.cluster_io.proofs.Texts.{content_at_feed, content_begun, content_begun_whole, content_without_feed, length-before_feed}

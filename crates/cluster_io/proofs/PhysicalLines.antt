@@ -5,7 +5,7 @@ use Rattle.std.proofs.lemmas.Bool.{cond-true, cond-false, cond_both, or_parts, a
 use Rattle.std.proofs.lemmas.List.{length-append}
 use Rattle.crm_lex.specs.RawLines.{physical_lines, onto_first, onto_group, joined, goes_on}
 use Rattle.cluster_io.specs.NextLine.{has_feed, first_line_of, first_line, content_within, is_whole}
-use Rattle.cluster_io.specs.Scanning.{Joins, all_go_on, physical_content_length}
+use Rattle.cluster_io.specs.Inner.Scanning.{Joins, all_go_on, physical_content_length}
 use Rattle.crm_lex.proofs.Ends.{length-content}
 
 -- bytes up to the first line feed are a physical line

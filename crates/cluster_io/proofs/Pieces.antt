@@ -1,9 +1,10 @@
 -- One piece after another is taken from a source, or added to a sink.
-use Rattle.std.proofs.Common.{◌≡◌, ℕ, ◌+◌, ◌-◌, Option, Some, None, List, ◌++◌, length, take, drop, sym, ap, ◌∙◌, append_assoc, option_map, subst, drop-drop, length-append, ◌≤◌}
+use Rattle.std.proofs.Common.{arith, ◌≡◌, ℕ, zero, suc, ◌+◌, ◌-◌, ◌<◌, Option, Some, None, List, [], ◌∷◌, ◌++◌, refl, length, take, drop, sym, ap, ◌∙◌, append_assoc, option_map, subst, drop-drop, length-append, ◌≤◌}
 use Rattle.std.proofs.Math.Seq.{take-append_seam, take-add}
 use Rattle.std.proofs.lemmas.List.{take-append-drop, take_rest, length-take-le}
-use Rattle.std.specs.Prelude.{Result, Ok, Err, OnErr}
-use Rattle.cluster_io.specs.Streams.{TakesBytes, TakesAtMost, TakesCount, Adds}
+use Rattle.std.proofs.lemmas.List.Elements.{All-append, All-cons, All-nil}
+use Rattle.std.specs.Prelude.{Result, Ok, Err, IfSome, OnErr}
+use Rattle.cluster_io.specs.Streams.{TakesBytes, TakesAtMost, TakesCount, Adds, IsLeftOf, Offers, WholeFirst}
 
 -- two takings in turn are one
 pub Takes-then : (a b c : Option (List ℕ)) (xs ys : List ℕ)
@@ -56,3 +57,38 @@ Takes-count a b c xs buf n count p q h k = record {
 pub on_err : {T E P : Type 0} (r : Result T E) → P → OnErr r P
 on_err (Ok _) p = tt
 on_err (Err _) p = p
+
+-- a first piece that is the whole text
+pub whole-first : (a b c : Option (List (List ℕ))) (text : List ℕ) → b ≡ a → Offers b text c → IfSome c (WholeFirst text a)
+whole-first a b None text same offers = tt
+whole-first a None (Some now) text same offers = cc
+whole-first a (Some earlier) (Some now) text same offers = record {
+  earlier = earlier;
+  told = sym same;
+  rest = [];
+  pieces = cc;
+  left = All-nil (IsLeftOf text);
+}
+
+-- a further piece that is what was left
+pub whole-more : (a b c : Option (List (List ℕ))) (text piece : List ℕ)
+    → IfSome b (WholeFirst text a) → IsLeftOf text piece → Offers b piece c → IfSome c (WholeFirst text a)
+whole-more a b None text piece whole left offers = tt
+whole-more a None (Some now) text piece whole left offers = cc
+whole-more a (Some mid) (Some now) text piece whole left offers =
+    let one : now ≡ mid ++ piece ∷ [] = cc in record {
+      earlier = whole.earlier;
+      told = whole.told;
+      rest = whole.rest ++ piece ∷ [];
+      pieces = one ∙ (ap (λ (ps : List (List ℕ)). ps ++ piece ∷ []) whole.pieces ∙ append_assoc whole.earlier (text ∷ whole.rest) (piece ∷ []));
+      left = All-append (IsLeftOf text) whole.rest (piece ∷ []) whole.left (All-cons (IsLeftOf text) piece [] left (All-nil (IsLeftOf text)));
+    }
+
+-- one more piece of a text, of which so much was taken before
+pub whole-piece : (a b c : Option (List (List ℕ))) (text : List ℕ) (done : ℕ)
+    → (done ≡ 0 → b ≡ a) → (0 < done → IfSome b (WholeFirst text a))
+    → Offers b (take (length text - done) (drop done text)) c → IfSome c (WholeFirst text a)
+whole-piece a b c text zero none so_far offers = whole-first a b c text (none refl) (rw (take_rest text zero) at offers)
+whole-piece a b c text (suc d) none so_far offers =
+    whole-more a b c text (drop (suc d) text) (so_far (omega arith)) (record { count = suc d; some = omega arith; left = refl })
+    (rw (take_rest text (suc d)) at offers)

@@ -6,7 +6,7 @@ use Rattle.std.proofs.lemmas.List.Folds.{list_any-append}
 use Rattle.std.proofs.lemmas.List.{append-nil, length-append, length-take-le, length-drop, take-append-drop, take_more, take_all, take_rest, drop_more, drop-drop, get_or-drop}
 use Rattle.crm_lex.specs.RawLines.{physical_lines, joined, goes_on, content, ends_in, ends_in_backslash, begins_comment}
 use Rattle.cluster_io.specs.NextLine.{has_feed, first_line_of, first_line, holds_line, reader_answer, IsUndecided}
-use Rattle.cluster_io.specs.Scanning.{Joins, physical_content_length, Looked}
+use Rattle.cluster_io.specs.Inner.Scanning.{Joins, physical_content_length, Looked}
 use Rattle.cluster_io.specs.Inner.FoundLines.{before_feed, FeedAt, FeedIn, IsLine, IsOpen, IsLast}
 use Rattle.cluster_io.specs.declared.line_scan.Scan.{Scan}
 use Rattle.cluster_io.specs.declared.line_scan.Bounds.{Bounds}

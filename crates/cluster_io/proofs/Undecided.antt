@@ -5,7 +5,7 @@ use Rattle.std.proofs.lemmas.List.{append-nil, length-append, length-replicate}
 use Rattle.std.proofs.lemmas.List.Folds.{list_any-append}
 use Rattle.crm_lex.specs.RawLines.{physical_lines}
 use Rattle.cluster_io.specs.NextLine.{reader_answer, has_feed, IsUndecided}
-use Rattle.cluster_io.specs.Scanning.{Looked, physical_content_length}
+use Rattle.cluster_io.specs.Inner.Scanning.{Looked, physical_content_length}
 use Rattle.cluster_io.specs.Inner.FoundLines.{before_feed}
 use Rattle.cluster_io.specs.declared.line_scan.Bounds.{Bounds}
 use Rattle.cluster_io.specs.declared.line_scan.Scan.{Scan}

@@ -2,3 +2,7 @@
 pub mod Reads
 pub mod FoundLines
 pub mod ReaderTurns
+pub mod Scanning
+pub mod HeldLines
+pub mod Windows
+pub mod Attempts

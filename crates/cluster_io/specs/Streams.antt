@@ -1,5 +1,5 @@
 -- What a source has left, what a sink holds, and when a count of faults has risen.
-use Rattle.std.specs.Prelude.{◌≡◌, ℕ, ◌+◌, ◌-◌, ◌^◌, ◌≤◌, ◌<◌, min, Bool, true, false, Option, List, [], ◌++◌, length, take, IfSome, option_map}
+use Rattle.std.specs.Prelude.{◌≡◌, ◌≢◌, ℕ, ◌+◌, ◌-◌, ◌^◌, ◌≤◌, ◌<◌, min, All, Bool, true, false, Option, Some, List, [], ◌∷◌, ◌++◌, length, take, drop, IfSome, option_map}
 use Rattle.cluster_io.specs.declared.source.ReadStep.{ReadStep}
 use Rattle.cluster_io.specs.declared.source.ReadStep.TheVariants as read
 use Rattle.cluster_io.specs.declared.sink.WriteStep.{WriteStep}
@@ -64,3 +64,25 @@ abbrev pub Writes : Option (List ℕ) → Option (List ℕ) → WriteStep → Li
 Writes before after (write.Took count) piece =
     (0 < count) × (count ≤ length piece) × Adds before (take count piece) after
 Writes before after write.Failed piece = after ≡ before
+
+-- a sink was offered one piece more, if it tells the pieces now
+abbrev pub Offers : Option (List (List ℕ)) → List ℕ → Option (List (List ℕ)) → Type 0
+Offers before piece after = IfSome after (λ (now : List (List ℕ)). Some now ≡ option_map (λ pieces. pieces ++ piece ∷ []) before)
+
+-- an end of a text: what is left of it behind some of its bytes
+pub record IsLeftOf (text piece : List ℕ) : Type 0 where
+  pub count : ℕ
+  pub some : 0 < count
+  pub left : piece ≡ drop count text
+
+-- the pieces that were offered since: the whole of a text first, and then only ends of it
+pub record WholeFirst (text : List ℕ) (before : Option (List (List ℕ))) (now : List (List ℕ)) : Type 0 where
+  pub earlier : List (List ℕ)
+  pub told : before ≡ Some earlier
+  pub rest : List (List ℕ)
+  pub pieces : now ≡ earlier ++ text ∷ rest
+  pub left : All (IsLeftOf text) rest
+
+-- a text that isn't empty was offered as one piece, and after it only ends of it, if the sink still tells the pieces
+abbrev pub OffersWhole : List ℕ → Option (List (List ℕ)) → Option (List (List ℕ)) → Type 0
+OffersWhole text before after = text ≢ [] → IfSome after (WholeFirst text before)

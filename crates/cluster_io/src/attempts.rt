@@ -2,7 +2,7 @@ ghost use Rattle.std.specs.Prelude.{◌≡◌, ◌≢◌, ℕ, true, ◌≤◌, 
 ghost use Rattle.std.specs.IoError.{error_kind};
 ghost use Rattle.std.specs.Io.KnownBytes.{Appends, Consumes, IsAtEnd, Keeps};
 ghost use Rattle.cluster_io.specs.Streams.{Bears, next_fault};
-ghost use Rattle.cluster_io.specs.Attempts.{is_answer};
+ghost use Rattle.cluster_io.specs.Inner.Attempts.{is_answer};
 
 use std::io;
 use std::io::{ErrorKind, Read, Write};
@@ -49,6 +49,9 @@ impl<R: Read> ReaderCalls<R> {
     /// A reader that wasn't called yet.
     pub(crate) fn new(reader: R) -> ReaderCalls<R>
         ensures reader { result.reader ≡ reader }
+        ensures failures { result.failures ≡ 0 }
+        ensures interruptions { result.interruptions ≡ 0 }
+        ensures answers { result.answers ≡ 0 }
     {
         ReaderCalls {
             reader,
@@ -105,6 +108,9 @@ impl<W: Write> WriterCalls<W> {
     /// A writer that wasn't called yet.
     pub(crate) fn new(writer: W) -> WriterCalls<W>
         ensures writer { result.writer ≡ writer }
+        ensures failures { result.failures ≡ 0 }
+        ensures interruptions { result.interruptions ≡ 0 }
+        ensures answers { result.answers ≡ 0 }
     {
         WriterCalls {
             writer,

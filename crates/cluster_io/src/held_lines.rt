@@ -1,7 +1,7 @@
 ghost use Rattle.std.specs.Prelude.{◌≡◌, ℕ, ◌+◌, ◌*◌, ◌^◌, ◌≤◌, ◌<◌, None, Some, true, false, [], length, IfOk, IfSome};
 ghost use Rattle.cluster_io.specs.Streams.{Bears};
 ghost use Rattle.cluster_io.specs.NextLine.{holds_line};
-ghost use Rattle.cluster_io.specs.HeldLines.{Stops};
+ghost use Rattle.cluster_io.specs.Inner.HeldLines.{Stops};
 ghost use Rattle.cluster_io.specs.Inner.ReaderTurns.{MayGiveFound, GivesFound, Turned};
 
 use crate::line_scan::{Bounds, Found, Scan, last_line, look};
@@ -35,7 +35,7 @@ pub struct HeldLines {
 
 impl Model for HeldLines {
     ghost use Rattle.cluster_io.specs.Readings.{Reading};
-    ghost use Rattle.cluster_io.specs.HeldLines.{OrderlyScan};
+    ghost use Rattle.cluster_io.specs.Inner.HeldLines.{OrderlyScan};
 
     ghost Value = { Reading };
 

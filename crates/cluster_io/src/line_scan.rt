@@ -1,7 +1,7 @@
 ghost use Rattle.std.specs.Prelude.{◌≡◌, ℕ, ◌+◌, ◌≤◌, ◌<◌, ◌&&◌, ◌||◌, not, false, drop, length, MatchOption, IfOk, IfErr};
 ghost use Rattle.crm_lex.specs.RawLines.{begins_comment, ends_in_backslash};
 ghost use Rattle.cluster_io.specs.NextLine.{has_feed};
-ghost use Rattle.cluster_io.specs.Scanning.{Looked};
+ghost use Rattle.cluster_io.specs.Inner.Scanning.{Looked};
 ghost use Rattle.cluster_io.specs.Inner.FoundLines.{Finds, FeedAt, FeedIn, FindsLast, before_feed};
 
 use crm_lex::{begins_comment, ends_in};

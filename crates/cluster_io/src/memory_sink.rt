@@ -1,5 +1,5 @@
-ghost use Rattle.std.specs.Prelude.{◌≡◌, ℕ, ◌+◌, ◌<◌, true, Some, [], length, min, Contains, IfOk};
-ghost use Rattle.cluster_io.specs.Streams.{Bears, Writes, next_fault};
+ghost use Rattle.std.specs.Prelude.{◌≡◌, ℕ, ◌+◌, ◌<◌, true, None, Some, [], length, min, Contains, IfOk};
+ghost use Rattle.cluster_io.specs.Streams.{Bears, Offers, Writes, next_fault};
 ghost use Rattle.cluster_io.specs.Memory.{next_call};
 
 use crate::{NoMemory, Sink, WriteStep};
@@ -91,6 +91,8 @@ impl MemorySink {
 impl Sink for MemorySink {
     ghost written = { λ s. Some s.held };
 
+    ghost offered = { λ _. None };
+
     ghost faults = { λ s. s.faults };
 
     ghost counts_only_failures = { true };
@@ -98,6 +100,7 @@ impl Sink for MemorySink {
     fn write(&mut self, bytes: &[u8]) -> WriteStep
         requires { 0 < length bytes.now }
         ensures bytes { Writes (Some self.old.held) (Some self.new.held) result bytes.now }
+        ensures offered { Offers None bytes.now None }
         ensures bears { Bears true (result ≡ WriteStep.Failed) self.old.faults self.new.faults }
 
         // It takes as much as it may, and fails with no room left and at the calls named alone.

@@ -1,5 +1,5 @@
 ghost use Rattle.std.specs.Prelude.{◌≡◌, ℕ, ◌<◌, Bool, Option, List, [], length, IsErr, OnOk, OnErr};
-ghost use Rattle.cluster_io.specs.Streams.{Bears, Writes, Adds, AddsPrefix};
+ghost use Rattle.cluster_io.specs.Streams.{Bears, Writes, Adds, AddsPrefix, Offers, OffersWhole};
 
 /// What one call of `Sink::write` took.
 #[derive(Clone, Copy, Debug, PartialEq, Eq)]
@@ -16,6 +16,9 @@ pub trait Sink {
     /// The bytes written so far, where the sink tells them.
     ghost written: { Self → Option (List ℕ) };
 
+    /// The pieces that it was offered, one for each call, where the sink tells them.
+    ghost offered: { Self → Option (List (List ℕ)) };
+
     /// How often the sink has failed.
     ghost faults: { Self → ℕ };
 
@@ -26,6 +29,7 @@ pub trait Sink {
     fn write(&mut self, bytes: &[u8]) -> WriteStep
         requires { 0 < length bytes.now }
         ensures bytes { Writes (written self.old) (written self.new) result bytes.now }
+        ensures offered { Offers (offered self.old) bytes.now (offered self.new) }
         ensures bears { Bears counts_only_failures (result ≡ WriteStep.Failed)
             (faults self.old) (faults self.new) };
 }
@@ -34,10 +38,11 @@ pub trait Sink {
 #[derive(Clone, Copy, Debug, PartialEq, Eq)]
 pub struct WriteFault;
 
-/// Writes all of the text. An empty text makes no call.
+/// Writes all of the text: offers the whole of it first, and then only what is left. An empty text makes no call.
 pub fn write_text<W: Sink>(out: &mut W, text: &[u8]) -> Result<(), WriteFault>
     ensures all { OnOk result (Adds (W.written out.old) text.now (W.written out.new)) }
     ensures prefix { OnErr result (AddsPrefix text.now (W.written out.old) (W.written out.new)) }
+    ensures whole { OffersWhole text.now (W.offered out.old) (W.offered out.new) }
 
     // The first failed write ends the call.
     ensures bears { Bears W.counts_only_failures (IsErr result)

@@ -1,6 +1,6 @@
 ghost use Rattle.std.specs.Prelude.{◌≡◌, ℕ, true, false, None, ◌<◌, length, take};
 ghost use Rattle.std.specs.Io.KnownBytes.{Appends, Consumes, IsAtEnd, Keeps};
-ghost use Rattle.cluster_io.specs.Streams.{Bears, ReadsBytes, Writes, is_end, next_fault};
+ghost use Rattle.cluster_io.specs.Streams.{Bears, Offers, ReadsBytes, Writes, is_end, next_fault};
 
 use crate::attempts::{Attempt, ReaderCalls, WriterCalls};
 use crate::{ReadStep, Sink, Source, WriteStep};
@@ -19,14 +19,17 @@ pub struct StdSource<R: Read> {
 }
 
 impl<R: Read> StdSource<R> {
-    ghost use Rattle.cluster_io.specs.Standard.{reader_of};
+    ghost use Rattle.cluster_io.specs.Standard.{reader_of, reader_answers, reader_failures, reader_interruptions};
 
-    /// A source that has not failed yet, and hasn't ended.
+    /// A source that has not failed yet, and hasn't ended. It has made no call of the reader.
     pub fn new(reader: R) -> StdSource<R>
         ensures untold { ⟦<StdSource<R> as Source>⟧.left result ≡ None }
         ensures faults { ⟦<StdSource<R> as Source>⟧.faults result ≡ 0 }
         ensures going { ⟦<StdSource<R> as Source>⟧.ended result ≡ false }
         ensures reader { reader_of result ≡ reader }
+        ensures failures { reader_failures result ≡ 0 }
+        ensures interruptions { reader_interruptions result ≡ 0 }
+        ensures answers { reader_answers result ≡ 0 }
     {
         StdSource {
             calls: ReaderCalls::new(reader),
@@ -107,13 +110,16 @@ pub struct StdSink<W: Write> {
 }
 
 impl<W: Write> StdSink<W> {
-    ghost use Rattle.cluster_io.specs.Standard.{writer_of};
+    ghost use Rattle.cluster_io.specs.Standard.{writer_of, writer_answers, writer_failures, writer_interruptions};
 
-    /// A sink that has not failed yet.
+    /// A sink that has not failed yet. It has made no call of the writer.
     pub fn new(writer: W) -> StdSink<W>
         ensures untold { ⟦<StdSink<W> as Sink>⟧.written result ≡ None }
         ensures faults { ⟦<StdSink<W> as Sink>⟧.faults result ≡ 0 }
         ensures writer { writer_of result ≡ writer }
+        ensures failures { writer_failures result ≡ 0 }
+        ensures interruptions { writer_interruptions result ≡ 0 }
+        ensures answers { writer_answers result ≡ 0 }
     {
         StdSink {
             calls: WriterCalls::new(writer),
@@ -137,6 +143,8 @@ impl<W: Write> Sink for StdSink<W> {
 
     ghost written = { λ _. None };
 
+    ghost offered = { λ _. None };
+
     ghost faults = { λ s. s.faults };
 
     ghost counts_only_failures = { true };
@@ -144,6 +152,7 @@ impl<W: Write> Sink for StdSink<W> {
     fn write(&mut self, bytes: &[u8]) -> WriteStep
         requires { 0 < length bytes.now }
         ensures bytes { Writes None None result bytes.now }
+        ensures offered { Offers None bytes.now None }
         ensures bears { Bears true (result ≡ WriteStep.Failed)
             (sink_faults self.old) (sink_faults self.new) }
 

@@ -19,7 +19,7 @@ pub(crate) struct Window {
 
 impl Model for Window {
     ghost use Rattle.std.specs.Prelude.{◌≤◌, slice_range, vec_len};
-    ghost use Rattle.cluster_io.specs.Windows.{Pane};
+    ghost use Rattle.cluster_io.specs.Inner.Windows.{Pane};
 
     ghost Value = { Pane };
 

@@ -101,6 +101,25 @@ promote_after_its_stop = refl
 start_is_no_promote : predecessors apart_promoted (step Stop 1 0 ∷ step Start 0 0 ∷ []) (step Start 0 0) ≡ []
 start_is_no_promote = refl
 
+probe_where_it_is_promoted : predecessors apart_promoted (Probe 0 0 ∷ step Start 1 0 ∷ []) (step Start 1 0) ≡ Probe 0 0 ∷ []
+probe_where_it_is_promoted = refl
+
+stop_where_it_is_promoted : predecessors apart_promoted (step Stop 0 0 ∷ step Start 1 0 ∷ []) (step Start 1 0) ≡ step Stop 0 0 ∷ []
+stop_where_it_is_promoted = refl
+
+-- a migration that sends starts its leaf on the target: after its probe, after a fence, and after the probe there of what it must be apart from
+sent_after_its_probe : predecessors two (Probe 0 0 ∷ MigrateTo 0 0 1 ∷ []) (MigrateTo 0 0 1) ≡ Probe 0 0 ∷ []
+sent_after_its_probe = refl
+
+sent_after_a_fence : predecessors two (Fence 1 ∷ MigrateTo 0 0 1 ∷ []) (MigrateTo 0 0 1) ≡ Fence 1 ∷ []
+sent_after_a_fence = refl
+
+sent_after_the_probe_there : predecessors apart (Probe 1 1 ∷ MigrateTo 0 0 1 ∷ []) (MigrateTo 0 0 1) ≡ Probe 1 1 ∷ []
+sent_after_the_probe_there = refl
+
+sent_before_the_probe_here : predecessors apart (Probe 1 0 ∷ MigrateTo 0 0 1 ∷ []) (MigrateTo 0 0 1) ≡ []
+sent_before_the_probe_here = refl
+
 -- a migration in an order: the then is stopped before the leaf is sent, and started after it was taken in
 abbrev moving : List Action
 moving = step Stop 1 0 ∷ MigrateTo 0 0 1 ∷ MigrateFrom 0 0 1 ∷ step Stop 0 0 ∷ step Start 1 1 ∷ Operation Monitor 0 1 10000 role.Started ∷ []

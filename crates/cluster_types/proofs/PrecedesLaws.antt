@@ -1,5 +1,5 @@
 -- What must precede, case by case, is what `must_precede` computes.
-use Rattle.std.proofs.Common.{◌≡◌, ◌≢◌, ◌⊎◌, inl, inr, ◌↔◌, ◌<◌, ◌==◌, ◌&&◌, ◌||◌, if◌then◌else◌, nat_lt, not, ℕ, Bool, true, false, Option, Some, None, List, [], ◌∷◌, length, Contains, refl, sym, subst}
+use Rattle.std.proofs.Common.{◌≡◌, ◌≢◌, ◌⊎◌, inl, inr, ◌↔◌, ◌<◌, ◌==◌, ◌&&◌, ◌||◌, if◌then◌else◌, nat_lt, not, ℕ, Bool, true, false, Option, Some, None, List, [], ◌∷◌, length, Contains, refl, sym, subst, ap, ◌∙◌}
 use Rattle.std.specs.List.{list_any}
 use Rattle.std.proofs.lemmas.Bool.{and_from, and_parts, eq-eqb, eqb-true, lt-ltb, ltb-true, or_left, or_right}
 use Rattle.std.proofs.lemmas.List.Folds.{Any-from_list_any}
@@ -12,17 +12,16 @@ use Rattle.cluster_types.specs.declared.journal.Action.TheVariants.{Fence, Probe
 use Rattle.cluster_types.specs.declared.leaf.Op.{Op}
 use Rattle.cluster_types.specs.declared.leaf.Op.TheVariants as op
 use Rattle.cluster_types.specs.declared.leaf.Role.{Role}
-use Rattle.cluster_types.specs.declared.leaf.Role.TheVariants as role
 use Rattle.cluster_types.specs.declared.rules.Colocation.{Colocation}
 use Rattle.cluster_types.specs.declared.rules.Order.{Order}
 use Rattle.cluster_types.specs.Choice.{is_separation}
 use Rattle.cluster_types.specs.Fields.{copies}
 use Rattle.cluster_types.specs.Precedence.{LeafOnNode, as_earlier, as_later, both, cell_of, change_cell, comes_first_in_cell, demotes_first, fences_first, gives_any, gives_role, inverse, is_across, is_inverse_pair, is_one_cell, is_one_leaf, is_ordered, is_ordered_pair, is_parted, is_serialize, is_serialized, is_some_cell, is_taken_back, is_giving, migrates_first, must_precede, op_cell, parts_first, probe_cell, probes_first, stops_first, takers, takes_or_probes}
 use Rattle.cluster_types.specs.Precedes as precedes
-use Rattle.cluster_types.specs.Precedes.{IsOperation, operation, CountsAsFirst, CountsAsLater, TakesOrProbes, giver, ComesFirstOnCell, demote_stop, start_promote, change_monitor, AreSides, dependent_first, primary_first, PutsFirst, forth, back, turned, AreEnds, first_and_then, then_and_first, MigratesInTurn, taken_in_later, stopped_later, watched_later}
+use Rattle.cluster_types.specs.Precedes.{IsOperation, CountsAsFirst, CountsAsLater, GivesRole, TakesOrProbes, ComesFirstOnCell, demote_stop, start_promote, change_monitor, AreSides, dependent_first, primary_first, PutsFirst, forth, back, turned, AreEnds, first_and_then, then_and_first, MigratesInTurn, taken_in_later, stopped_later, watched_later}
 use Rattle.cluster_types.specs.Tables.{is_in_scope}
 use Rattle.cluster_types.proofs.Few.{of_two}
-use Rattle.cluster_types.proofs.Operations.{two_cells, cells_pass, leaf_is, operation_at, cell_of_operation, first_at, cell_of_first, later_at, cell_of_later, given_at, cell_of_given, taken_at, cell_of_taken, changed_at, cell_of_changed}
+use Rattle.cluster_types.proofs.Operations.{two_cells, cells_pass, some_given, role_gives, changed_by, change_of}
 
 itself : (n : ℕ) → (n == n) ≡ true
 itself n = eq-eqb n n refl
@@ -47,18 +46,22 @@ module _ (c : Cluster) (actions : List Action) (is_earlier : Action → Action �
 
   -- From each test its case.
 
-  probe_case : (x y : Action) (a b : LeafOnNode) → probe_cell x ≡ Some a → gives_any y ≡ Some b → is_one_leaf a b ≡ true → Before x y
-  probe_case (Probe r n) y a b h k e =
-      let g = given_at actions y b k in
-      let one : b.leaf ≡ r = rw (leaf_is r n a h) (sym (eqb-true a.leaf b.leaf e)) in
-      precedes.probe r n b.node g.given y (subst (λ v. CountsAsLater actions (giver g.given) y v b.node) one g.stands)
-  probe_case (Fence n) y a b h k e = cc
-  probe_case (Operation o r n i given) y a b h k e = cc
-  probe_case (MigrateTo r s t) y a b h k e = cc
-  probe_case (MigrateFrom r s t) y a b h k e = cc
+  leaf_is : (r n s m : ℕ) → cell_of r n ≡ cell_of s m → r ≡ s
+  leaf_is r n s m h = let e : record { leaf = r; node = n } ≡ record { leaf = s; node = m } = cc in ap (λ (v : LeafOnNode). v.leaf) e
+
+  probe_case : (x y : Action) (r n s m : ℕ) → probe_cell x ≡ cell_of r n → gives_any y ≡ cell_of s m → (r == s) ≡ true → Before x y
+  probe_case (Probe q k) y r n s m h gives e =
+      let g = some_given y s m gives in
+      precedes.probe q k m g.given y (subst (λ v. GivesRole g.given y v m) (sym (leaf_is q k r n h ∙ eqb-true r s e)) g.gives)
+  probe_case (Fence n) y r k s m h gives e = cc
+  probe_case (Operation o q k i played) y r n s m h gives e = cc
+  probe_case (MigrateTo q f u) y r n s m h gives e = cc
+  probe_case (MigrateFrom q f u) y r n s m h gives e = cc
 
   probes_case : (x y : Action) → probes_first x y ≡ true → Before x y
-  probes_case x y h = let b = two_cells is_one_leaf (probe_cell x) (gives_any y) h in probe_case x y b.one b.other b.is_one b.is_other b.passes
+  probes_case x y h =
+      let b = two_cells is_one_leaf (probe_cell x) (gives_any y) h in
+      probe_case x y b.one.leaf b.one.node b.other.leaf b.other.node b.is_one b.is_other b.passes
 
   stops_case : (x y : Action) → stops_first c x y ≡ true → Before x y
   stops_case x y h =
@@ -67,11 +70,11 @@ module _ (c : Cluster) (actions : List Action) (is_earlier : Action → Action �
       let few : (b.one.node ≡ b.other.node) ⊎ (copies c b.one.leaf < length c.nodes)
       = either (b.one.node == b.other.node) (nat_lt (copies c b.one.leaf) (length c.nodes)) node
       (λ e. inl (eqb-true b.one.node b.other.node e)) (λ e. inr (ltb-true (copies c b.one.leaf) (length c.nodes) e)) in
-      precedes.stop b.one.leaf b.one.node b.other.node x y (operation_at op.Stop x b.one b.is_one)
-      (subst (λ v. IsOperation op.Start y v b.other.node) (sym (eqb-true b.one.leaf b.other.leaf leaf)) (operation_at op.Start y b.other b.is_other)) few
+      precedes.stop b.one.leaf b.one.node b.other.node x y b.is_one
+      (subst (λ v. IsOperation op.Start y v b.other.node) (sym (eqb-true b.one.leaf b.other.leaf leaf)) b.is_other) few
 
   fence_case : (n : ℕ) (y : Action) (v : Option LeafOnNode) → gives_any y ≡ v → is_some_cell v ≡ true → Before (Fence n) y
-  fence_case n y (Some a) e h = let g = given_at actions y a e in precedes.fence n a.leaf a.node g.given y g.stands
+  fence_case n y (Some a) e h = let g = some_given y a.leaf a.node e in precedes.fence n a.leaf a.node g.given y g.gives
   fence_case n y None e h = cc
 
   fences_case : (x y : Action) → fences_first x y ≡ true → Before x y
@@ -94,21 +97,18 @@ module _ (c : Cluster) (actions : List Action) (is_earlier : Action → Action �
       (both is_one_cell (change_cell x) (op_cell op.Monitor y)) h
       (λ h. either (both is_one_cell (op_cell op.Demote x) (op_cell op.Stop y)) (both is_one_cell (op_cell op.Start x) (op_cell op.Promote y)) h
       (λ h. let b = two_cells is_one_cell (op_cell op.Demote x) (op_cell op.Stop y) h in
-      cell_case op.Demote op.Stop x y b.one.leaf b.one.node b.other.leaf b.other.node demote_stop
-      (operation_at op.Demote x b.one b.is_one) (operation_at op.Stop y b.other b.is_other) b.passes)
+      cell_case op.Demote op.Stop x y b.one.leaf b.one.node b.other.leaf b.other.node demote_stop b.is_one b.is_other b.passes)
       (λ h. let b = two_cells is_one_cell (op_cell op.Start x) (op_cell op.Promote y) h in
-      cell_case op.Start op.Promote x y b.one.leaf b.one.node b.other.leaf b.other.node start_promote
-      (operation_at op.Start x b.one b.is_one) (operation_at op.Promote y b.other b.is_other) b.passes))
+      cell_case op.Start op.Promote x y b.one.leaf b.one.node b.other.leaf b.other.node start_promote b.is_one b.is_other b.passes))
       (λ h. let b = two_cells is_one_cell (change_cell x) (op_cell op.Monitor y) h in
-      let k = changed_at x b.one b.is_one in
-      cell_case k.what op.Monitor x y b.one.leaf b.one.node b.other.leaf b.other.node (change_monitor k.what k.changes)
-      k.is (operation_at op.Monitor y b.other b.is_other) b.passes)
+      let k = changed_by x b.one.leaf b.one.node b.is_one in
+      cell_case k.what op.Monitor x y b.one.leaf b.one.node b.other.leaf b.other.node (change_monitor k.what k.changes) k.is b.is_other b.passes)
 
   demote_case : (p : Op) (x y : Action) → Contains (takers op.Promote) p → both is_one_leaf (op_cell p x) (op_cell op.Promote y) ≡ true → Before x y
   demote_case p x y takes h =
       let b = two_cells is_one_leaf (op_cell p x) (op_cell op.Promote y) h in
-      precedes.demote b.one.leaf b.one.node b.other.node p x y takes (operation_at p x b.one b.is_one)
-      (subst (λ v. IsOperation op.Promote y v b.other.node) (sym (eqb-true b.one.leaf b.other.leaf b.passes)) (operation_at op.Promote y b.other b.is_other))
+      precedes.demote b.one.leaf b.one.node b.other.node p x y takes b.is_one
+      (subst (λ v. IsOperation op.Promote y v b.other.node) (sym (eqb-true b.one.leaf b.other.leaf b.passes)) b.is_other)
 
   demotes_case : (x y : Action) → demotes_first x y ≡ true → Before x y
   demotes_case x y h =
@@ -124,13 +124,9 @@ module _ (c : Cluster) (actions : List Action) (is_earlier : Action → Action �
       let (leaves, node) = and_parts (b.one.leaf == r && b.other.leaf == s) (b.one.node == b.other.node) b.passes in
       let (left, right) = and_parts (b.one.leaf == r) (b.other.leaf == s) leaves in
       precedes.apart col r s b.one.node held given x y present separate sides
-      (subst (λ v. TakesOrProbes held x v b.one.node) (eqb-true b.one.leaf r left) (taken_at held x b.one b.is_one))
-      (subst (λ v. CountsAsLater actions (giver given) y s v) (sym (eqb-true b.one.node b.other.node node))
-      (subst (λ v. CountsAsLater actions (giver given) y v b.other.node) (eqb-true b.other.leaf s right) (gives given y b.other b.is_other)))
-    where
-      gives : (given : Role) (y : Action) (a : LeafOnNode) → gives_role given y ≡ Some a → CountsAsLater actions (giver given) y a.leaf a.node
-      gives role.Started y a e = later_at actions op.Start y a e
-      gives role.Promoted y a e = later_at actions op.Promote y a e
+      (subst (λ v. TakesOrProbes held x v b.one.node) (eqb-true b.one.leaf r left) b.is_one)
+      (subst (λ v. GivesRole given y s v) (sym (eqb-true b.one.node b.other.node node))
+      (subst (λ v. GivesRole given y v b.other.node) (eqb-true b.other.leaf s right) b.is_other))
 
   parts_case : (x y : Action) → list_any (λ col. parts_first col x y) c.colocations ≡ true → Before x y
   parts_case x y h =
@@ -150,8 +146,8 @@ module _ (c : Cluster) (actions : List Action) (is_earlier : Action → Action �
       let (leaves, scope) = and_parts (b.one.leaf == r && b.other.leaf == s) (is_in_scope o b.one.node b.other.node) b.passes in
       let (left, right) = and_parts (b.one.leaf == r) (b.other.leaf == s) leaves in
       precedes.order o p q r s b.one.node b.other.node x y present kind puts
-      (subst (λ v. CountsAsFirst p x v b.one.node) (eqb-true b.one.leaf r left) (first_at p x b.one b.is_one))
-      (subst (λ v. CountsAsLater actions q y v b.other.node) (eqb-true b.other.leaf s right) (later_at actions q y b.other b.is_other)) scope
+      (subst (λ v. CountsAsFirst p x v b.one.node) (eqb-true b.one.leaf r left) b.is_one)
+      (subst (λ v. CountsAsLater actions q y v b.other.node) (eqb-true b.other.leaf s right) b.is_other) scope
 
   back_case : (o : Order) (x y : Action) → Contains c.orders o → is_serialize o.kind ≡ false → o.symmetrical ≡ true → is_giving o.first_op && is_giving o.then_op ≡ true
       → is_taken_back actions o x y ≡ true → Before x y
@@ -188,16 +184,16 @@ module _ (c : Cluster) (actions : List Action) (is_earlier : Action → Action �
       (λ k. let b = two_cells (λ a b. a.leaf == o.first && b.leaf == o.then_leaf && is_in_scope o a.node b.node) (change_cell x) (change_cell y) k in
       let (leaves, scope) = and_parts (b.one.leaf == o.first && b.other.leaf == o.then_leaf) (is_in_scope o b.one.node b.other.node) b.passes in
       let (left, right) = and_parts (b.one.leaf == o.first) (b.other.leaf == o.then_leaf) leaves in
-      let u = changed_at x b.one b.is_one in
-      let v = changed_at y b.other b.is_other in
+      let u = changed_by x b.one.leaf b.one.node b.is_one in
+      let v = changed_by y b.other.leaf b.other.node b.is_other in
       precedes.serialize o u.what v.what o.first o.then_leaf b.one.node b.other.node x y present kind first_and_then u.changes v.changes
       (subst (λ w. IsOperation u.what x w b.one.node) (eqb-true b.one.leaf o.first left) u.is)
       (subst (λ w. IsOperation v.what y w b.other.node) (eqb-true b.other.leaf o.then_leaf right) v.is) scope sooner)
       (λ k. let b = two_cells (λ a b. a.leaf == o.first && b.leaf == o.then_leaf && is_in_scope o a.node b.node) (change_cell y) (change_cell x) k in
       let (leaves, scope) = and_parts (b.one.leaf == o.first && b.other.leaf == o.then_leaf) (is_in_scope o b.one.node b.other.node) b.passes in
       let (left, right) = and_parts (b.one.leaf == o.first) (b.other.leaf == o.then_leaf) leaves in
-      let u = changed_at y b.one b.is_one in
-      let v = changed_at x b.other b.is_other in
+      let u = changed_by y b.one.leaf b.one.node b.is_one in
+      let v = changed_by x b.other.leaf b.other.node b.is_other in
       precedes.serialize o v.what u.what o.then_leaf o.first b.other.node b.one.node x y present kind then_and_first v.changes u.changes
       (subst (λ w. IsOperation v.what x w b.other.node) (eqb-true b.other.leaf o.then_leaf right) v.is)
       (subst (λ w. IsOperation u.what y w b.one.node) (eqb-true b.one.leaf o.first left) u.is) (scope_turned o b.one.node b.other.node scope) sooner)
@@ -303,37 +299,32 @@ module _ (c : Cluster) (actions : List Action) (is_earlier : Action → Action �
 
   cell_test : (o p : Op) (x y : Action) (r n : ℕ) → ComesFirstOnCell o p → IsOperation o x r n → IsOperation p y r n → comes_first_in_cell x y ≡ true
   cell_test _ _ x y r n demote_stop k l =
-      or_left _ _ (or_left _ _ (cells_pass is_one_cell (op_cell op.Demote x) (op_cell op.Stop y) r n r n
-      (cell_of_operation op.Demote x r n k) (cell_of_operation op.Stop y r n l) (and_from (r == r) (n == n) (itself r) (itself n))))
+      or_left _ _ (or_left _ _ (cells_pass is_one_cell (op_cell op.Demote x) (op_cell op.Stop y) r n r n k l
+      (and_from (r == r) (n == n) (itself r) (itself n))))
   cell_test _ _ x y r n start_promote k l =
-      or_left _ _ (or_right (both is_one_cell (op_cell op.Demote x) (op_cell op.Stop y)) _ (cells_pass is_one_cell (op_cell op.Start x) (op_cell op.Promote y) r n r n
-      (cell_of_operation op.Start x r n k) (cell_of_operation op.Promote y r n l) (and_from (r == r) (n == n) (itself r) (itself n))))
+      or_left _ _ (or_right (both is_one_cell (op_cell op.Demote x) (op_cell op.Stop y)) _ (cells_pass is_one_cell (op_cell op.Start x) (op_cell op.Promote y) r n r n k l
+      (and_from (r == r) (n == n) (itself r) (itself n))))
   cell_test _ _ x y r n (change_monitor o changes) k l =
       or_right (both is_one_cell (op_cell op.Demote x) (op_cell op.Stop y) || both is_one_cell (op_cell op.Start x) (op_cell op.Promote y)) _
       (cells_pass is_one_cell (change_cell x) (op_cell op.Monitor y) r n r n
-      (cell_of_changed o x r n changes k) (cell_of_operation op.Monitor y r n l) (and_from (r == r) (n == n) (itself r) (itself n)))
+      (change_of o x r n changes k) l (and_from (r == r) (n == n) (itself r) (itself n)))
 
   demote_test : (p : Op) (x y : Action) (r n m : ℕ) → Contains (takers op.Promote) p → IsOperation p x r n → IsOperation op.Promote y r m → demotes_first x y ≡ true
   demote_test p x y r n m takes k l =
       of_two (λ v. IsOperation v x r n → demotes_first x y ≡ true) op.Demote op.Stop p
       (λ k. or_left (both is_one_leaf (op_cell op.Demote x) (op_cell op.Promote y)) (both is_one_leaf (op_cell op.Stop x) (op_cell op.Promote y))
-      (cells_pass is_one_leaf (op_cell op.Demote x) (op_cell op.Promote y) r n r m (cell_of_operation op.Demote x r n k) (cell_of_operation op.Promote y r m l) (itself r)))
+      (cells_pass is_one_leaf (op_cell op.Demote x) (op_cell op.Promote y) r n r m k l (itself r)))
       (λ k. or_right (both is_one_leaf (op_cell op.Demote x) (op_cell op.Promote y)) (both is_one_leaf (op_cell op.Stop x) (op_cell op.Promote y))
-      (cells_pass is_one_leaf (op_cell op.Stop x) (op_cell op.Promote y) r n r m (cell_of_operation op.Stop x r n k) (cell_of_operation op.Promote y r m l) (itself r)))
+      (cells_pass is_one_leaf (op_cell op.Stop x) (op_cell op.Promote y) r n r m k l (itself r)))
       takes k
 
-  cell_of_role : (given : Role) (y : Action) (r n : ℕ) → CountsAsLater actions (giver given) y r n → gives_role given y ≡ cell_of r n
-  cell_of_role role.Started y r n k = cell_of_later actions op.Start y r n k
-  cell_of_role role.Promoted y r n k = cell_of_later actions op.Promote y r n k
-
-  parted_test : (r s n : ℕ) (held given : Role) (x y : Action) → TakesOrProbes held x r n → CountsAsLater actions (giver given) y s n → is_parted r held s given x y ≡ true
+  parted_test : (r s n : ℕ) (held given : Role) (x y : Action) → TakesOrProbes held x r n → GivesRole given y s n → is_parted r held s given x y ≡ true
   parted_test r s n held given x y k l =
-      cells_pass (λ a b. a.leaf == r && b.leaf == s && a.node == b.node) (takes_or_probes held x) (gives_role given y) r n s n
-      (cell_of_taken held x r n k) (cell_of_role given y s n l)
+      cells_pass (λ a b. a.leaf == r && b.leaf == s && a.node == b.node) (takes_or_probes held x) (gives_role given y) r n s n k l
       (and_from (r == r && s == s) (n == n) (and_from (r == r) (s == s) (itself r) (itself s)) (itself n))
 
   side_test : (col : Colocation) (r s n : ℕ) (held given : Role) (x y : Action) → AreSides col r held s given → TakesOrProbes held x r n
-      → CountsAsLater actions (giver given) y s n
+      → GivesRole given y s n
       → (is_parted col.dependent col.dependent_role col.primary col.primary_role x y || is_parted col.primary col.primary_role col.dependent col.dependent_role x y) ≡ true
   side_test col _ _ n _ _ x y dependent_first k l =
       or_left _ _ (parted_test col.dependent col.primary n col.dependent_role col.primary_role x y k l)
@@ -344,8 +335,7 @@ module _ (c : Cluster) (actions : List Action) (is_earlier : Action → Action �
   pair_test : (o : Order) (p q : Op) (r s n m : ℕ) (x y : Action) → CountsAsFirst p x r n → CountsAsLater actions q y s m → is_in_scope o n m ≡ true
       → is_ordered_pair actions o p r q s x y ≡ true
   pair_test o p q r s n m x y k l scope =
-      cells_pass (λ a b. a.leaf == r && b.leaf == s && is_in_scope o a.node b.node) (as_earlier p x) (as_later actions q y) r n s m
-      (cell_of_first p x r n k) (cell_of_later actions q y s m l)
+      cells_pass (λ a b. a.leaf == r && b.leaf == s && is_in_scope o a.node b.node) (as_earlier p x) (as_later actions q y) r n s m k l
       (and_from (r == r && s == s) (is_in_scope o n m) (and_from (r == r) (s == s) (itself r) (itself s)) scope)
 
   allowed : (b : Bool) → b ≡ false → not b ≡ true
@@ -372,7 +362,7 @@ module _ (c : Cluster) (actions : List Action) (is_earlier : Action → Action �
       → is_in_scope o n m ≡ true → is_across o x y ≡ true
   across_test o p q n m x y p_changes q_changes k l scope =
       cells_pass (λ a b. a.leaf == o.first && b.leaf == o.then_leaf && is_in_scope o a.node b.node) (change_cell x) (change_cell y) o.first n o.then_leaf m
-      (cell_of_changed p x o.first n p_changes k) (cell_of_changed q y o.then_leaf m q_changes l)
+      (change_of p x o.first n p_changes k) (change_of q y o.then_leaf m q_changes l)
       (and_from (o.first == o.first && o.then_leaf == o.then_leaf) (is_in_scope o n m)
       (and_from (o.first == o.first) (o.then_leaf == o.then_leaf) (itself o.first) (itself o.then_leaf)) scope)
 
@@ -396,12 +386,11 @@ module _ (c : Cluster) (actions : List Action) (is_earlier : Action → Action �
 
   pub to_test : (x y : Action) → Before x y → must_precede c actions is_earlier x y ≡ true
   to_test _ _ (precedes.probe r n m given y k) =
-      by_probe (Probe r n) y (cells_pass is_one_leaf (probe_cell (Probe r n)) (gives_any y) r n r m refl (cell_of_given actions given y r m k) (itself r))
+      by_probe (Probe r n) y (cells_pass is_one_leaf (probe_cell (Probe r n)) (gives_any y) r n r m refl (role_gives given y (record { leaf = r; node = m }) k) (itself r))
   to_test _ _ (precedes.stop r n m x y k l few) =
-      by_stop x y (cells_pass (λ a b. is_one_leaf a b && (a.node == b.node || nat_lt (copies c a.leaf) (length c.nodes))) (op_cell op.Stop x) (op_cell op.Start y) r n r m
-      (cell_of_operation op.Stop x r n k) (cell_of_operation op.Start y r m l)
+      by_stop x y (cells_pass (λ a b. is_one_leaf a b && (a.node == b.node || nat_lt (copies c a.leaf) (length c.nodes))) (op_cell op.Stop x) (op_cell op.Start y) r n r m k l
       (and_from (r == r) (n == m || nat_lt (copies c r) (length c.nodes)) (itself r) (few_test r n m few)))
-  to_test _ _ (precedes.fence n r m given y k) = by_fence (Fence n) y (some_cell (gives_any y) r m (cell_of_given actions given y r m k))
+  to_test _ _ (precedes.fence n r m given y k) = by_fence (Fence n) y (some_cell (gives_any y) r m (role_gives given y (record { leaf = r; node = m }) k))
   to_test _ _ (precedes.same_cell r n o p x y first k l) = by_cell x y (cell_test o p x y r n first k l)
   to_test _ _ (precedes.demote r n m p x y takes k l) = by_demote x y (demote_test p x y r n m takes k l)
   to_test _ _ (precedes.apart col r s n held given x y present separate sides k l) =

@@ -6,13 +6,11 @@ use Rattle.std.proofs.lemmas.Option.{unwrap_or-slice_get}
 use Rattle.std.proofs.Math.Bool.{and-false}
 use Rattle.std.specs.Prelude.{slice_get, slice_set, unwrap_or}
 use Rattle.lemmas.proofs.Booleans.{equal_turned}
-use Rattle.cluster_types.specs.declared.leaf.Role.{Role}
-use Rattle.cluster_types.specs.declared.leaf.Role.TheVariants as role
 use Rattle.cluster_types.specs.declared.placement.Table.{Table}
 use Rattle.cluster_types.specs.declared.placement.Target.{Target}
 use Rattle.cluster_types.specs.declared.placement.Target.TheVariants as target
 use Rattle.cluster_types.specs.Cells.{is_same_cell}
-use Rattle.cluster_types.specs.Tables.{Targets, holds_role, is_promoted_target, is_somewhere, target_holds, targets_of}
+use Rattle.cluster_types.specs.Tables.{is_promoted_target, is_somewhere, targets_of}
 
 -- the cells of a leaf stand before those of each later one
 pub ordered : (nodes r n s m : ℕ) → n < nodes → r < s → r * nodes + n < s * nodes + m
@@ -31,11 +29,6 @@ cell_within leaves nodes r n low within =
 -- a cell is another where leaf and node are the other's
 pub same_cell : (r n leaf node : ℕ) → (r == leaf && n == node) ≡ is_same_cell r n leaf node
 same_cell r n leaf node = rw (equal_turned r leaf, equal_turned n node) refl
-
--- what a leaf holds on a node is what its target there says
-pub by_target : (table : Targets) (r n : ℕ) (given : Role) → target_holds (table r n) given ≡ holds_role table r given n
-by_target table r n role.Started = refl
-by_target table r n role.Promoted = refl
 
 -- where a leaf is promoted, it is somewhere
 pub promoted_somewhere : (t : Target) → is_promoted_target t ≡ true → is_somewhere t ≡ true

@@ -1,4 +1,5 @@
--- What a cluster says of one of its leaves, by its number. A number that the cluster doesn't have gets the plainest value (rule of this project).
+-- What a cluster says of one of its leaves, by its number. A number that the cluster doesn't have gets 0, an empty text or list, false, `restart` or `Started`, which isn't always
+-- the default of the setting (rule of this project).
 use Rattle.std.specs.Prelude.{ℕ, ℤ, pos, Bool, false, List, [], slice_get}
 use Rattle.std.specs.Option.{option_map_or}
 use Rattle.cluster_types.specs.declared.cluster.Cluster.{Cluster}

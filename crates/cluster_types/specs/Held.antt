@@ -48,7 +48,7 @@ module _ (c : Cluster) (es : List Event) (table : Targets) where
 
   -- the chosen cells that are held back, by three rules and nothing else: a then where each target of its first, in the order's role and in scope, is held,
   -- or there is none; a dependent where its primary has no target in its role on the node, or that one is held; and a promote where the place of its leaf
-  -- is held
+  -- is held. What LacksFirst and LacksPrimary say of Held is written out in the fields, since these may not cite a definition over Held
   pub data Held : Decision → ℕ → Type 0 where
     by_order : (o : Order) (n : ℕ) → OrderCanHoldBack o n
         → ((m : ℕ) → m < length c.nodes → is_in_scope o n m ≡ true → holds_role table o.first (role_given o.first_op) m ≡ true

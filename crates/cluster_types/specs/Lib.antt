@@ -18,6 +18,7 @@ pub mod Choice
 pub mod Held
 pub mod NeededActions
 pub mod LeastSets
+pub mod OperationNames
 pub mod Precedence
 pub mod Precedes
 pub mod Numbers

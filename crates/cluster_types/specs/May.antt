@@ -24,8 +24,8 @@ takes_out fencing n (Lost node) = node == n && not fencing
 takes_out fencing n (Ended k (Fence node) o moment) = node == n && is_code_among (success ∷ []) o
 takes_out fencing n _ = false
 
--- what lets a leaf run on the node, unless it is ignored: the node joined; a start, a promote, a demote or the taking in of a migration began or ended, however it
--- ended; the sending of a migration to the node began; or a probe or a monitor ended and doesn't close the cell
+-- what lets a leaf run on the node, unless it is ignored: the node joined; a start, a promote, a demote or the taking in of a migration began or ended,
+-- however it ended; the sending of a migration to the node began; or a probe or a monitor ended and doesn't close the cell
 abbrev pub opens_cell : ℕ → ℕ → Event → Bool
 opens_cell r n (Up node) = node == n
 opens_cell r n (Begin k (Operation Start leaf node interval role)) = is_same_cell r n leaf node
@@ -41,8 +41,8 @@ opens_cell r n (Ended k (Probe leaf node) o moment) = is_same_cell r n leaf node
 opens_cell r n (Ended k (Operation Monitor leaf node interval role) o moment) = is_same_cell r n leaf node && not (is_code_among (not_running ∷ []) o)
 opens_cell r n _ = false
 
--- an action shows that the leaf doesn't run on the node: a stop succeeded; a probe found it not running or not installed; or a monitor found
--- it not running
+-- an action shows that the leaf doesn't run on the node, unless it is ignored: a stop succeeded; a probe found it not running or not installed; or a
+-- monitor found it not running
 abbrev pub closes_cell : ℕ → ℕ → Event → Bool
 closes_cell r n (Ended k (Operation Stop leaf node interval role) o moment) = is_same_cell r n leaf node && is_code_among (success ∷ []) o
 closes_cell r n (Ended k (Probe leaf node) o moment) = is_same_cell r n leaf node && is_code_among (not_running ∷ err_installed ∷ []) o
@@ -62,7 +62,7 @@ abbrev pub may_be_running : Cluster → ℕ → ℕ → List Event → Bool
 may_be_running c r n [] = false
 may_be_running c r n (e ∷ es) = opens c r n e && list_all (λ later. not (closes c r n later)) es || may_be_running c r n es
 
--- from this event on the leaf may be promoted on the node: the node joined; a promote began or ended, however it ended; or a probe or a
+-- what lets a leaf be promoted on the node, unless it is ignored: the node joined; a promote began or ended, however it ended; or a probe or a
 -- monitor found it promoted
 abbrev pub promotes_cell : ℕ → ℕ → Event → Bool
 promotes_cell r n (Up node) = node == n
@@ -72,8 +72,8 @@ promotes_cell r n (Ended k (Probe leaf node) o moment) = is_same_cell r n leaf n
 promotes_cell r n (Ended k (Operation Monitor leaf node interval role) o moment) = is_same_cell r n leaf node && is_code_among (running_promoted ∷ failed_promoted ∷ degraded_promoted ∷ []) o
 promotes_cell r n _ = false
 
--- an action shows that the leaf isn't promoted on the node: a start, a stop or a demote succeeded; a probe or a monitor found it unpromoted or not running;
--- or a probe found it not installed
+-- an action shows that the leaf isn't promoted on the node, unless it is ignored: a start, a stop or a demote succeeded; a probe or a monitor found it
+-- unpromoted or not running; or a probe found it not installed
 abbrev pub demotes_cell : ℕ → ℕ → Event → Bool
 demotes_cell r n (Ended k (Operation Start leaf node interval role) o moment) = is_same_cell r n leaf node && is_code_among (success ∷ []) o
 demotes_cell r n (Ended k (Operation Stop leaf node interval role) o moment) = is_same_cell r n leaf node && is_code_among (success ∷ []) o
@@ -82,13 +82,15 @@ demotes_cell r n (Ended k (Probe leaf node) o moment) = is_same_cell r n leaf no
 demotes_cell r n (Ended k (Operation Monitor leaf node interval role) o moment) = is_same_cell r n leaf node && is_code_among (success ∷ degraded ∷ not_running ∷ []) o
 demotes_cell r n _ = false
 
+-- from this event on the leaf may be promoted on the node: it lets a leaf be promoted, and shows no outcome that is ignored
 abbrev pub opens_promoted : Cluster → ℕ → ℕ → Event → Bool
 opens_promoted c r n e = promotes_cell r n e && not (shows_nothing c e)
 
+-- from this event on it no longer may: the node is out, or the event shows that the leaf isn't promoted, and no outcome that is ignored
 abbrev pub closes_promoted : Cluster → ℕ → ℕ → Event → Bool
 closes_promoted c r n e = takes_out c.properties.fencing n e || demotes_cell r n e && not (shows_nothing c e)
 
--- some event opens the cell for promoted, and no later event closes it
+-- some event lets the leaf be promoted on the node, and no later event takes that back
 abbrev pub is_left_promoted : Cluster → ℕ → ℕ → List Event → Bool
 is_left_promoted c r n [] = false
 is_left_promoted c r n (e ∷ es) =

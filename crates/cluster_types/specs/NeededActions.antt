@@ -71,7 +71,7 @@ is_monitor_for role.Promoted target.Promoted = true
 is_monitor_for _ _ = false
 
 module _ (c : Cluster) (es : List Event) (targets : Targets) where
-  -- the cell can be cycled: what runs there is to stay, and the cluster may start
+  -- the cell can be cycled: its leaf isn't pinned, runs there and has a target there, and the cluster may start
   abbrev pub can_cycle : ℕ → ℕ → Bool
   can_cycle r n = may_start c es && not (is_pinned c es r) && runs (cell_state c r n es) && is_somewhere (targets r n)
 
@@ -92,7 +92,7 @@ module _ (c : Cluster) (es : List Event) (targets : Targets) where
     pub can_be_cycled : can_cycle o.then_leaf n ≡ true
     pub in_role : holds_role targets o.then_leaf (role_given o.then_op) n ≡ true
 
-  -- the cells that are stopped and started again, by three rules and nothing else: a cell of a leaf that is active in more cells than it has copies; and
+  -- the cells that are stopped and started again, by three rules and nothing else: a cell that can be cycled, of a leaf that is active in more cells than it has copies; and
   -- the then of an order whose first is disturbed in scope, by the steps that it needs itself, or by those that it gets as a cycled cell
   pub data Cycled : ℕ → ℕ → Type 0 where
     by_copies : (r n : ℕ) → r < length c.leaves → n < length c.nodes → can_cycle r n ≡ true → nat_lt (copies c r) (active_count c es r) ≡ true → Cycled r n

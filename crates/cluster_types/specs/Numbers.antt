@@ -11,7 +11,7 @@ use Rattle.cluster_types.specs.declared.rules.Order.{Order}
 use Rattle.cluster_types.specs.Fields.{is_promotable}
 use Rattle.cluster_types.specs.Precedence.{is_same_op, is_giving, inverse, takers, is_migrating, is_serialize}
 
--- a step of a leaf: one of the four operations that change it
+-- a step of a leaf: an operation on it. The steps that are ordered are the four that change it
 pub record LeafStep : Type 0 where
   pub what : Op
   pub leaf : ℕ

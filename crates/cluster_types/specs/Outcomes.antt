@@ -56,7 +56,7 @@ on_fail_of_op c r Promote interval = promote_on_fail c r
 on_fail_of_op c r Demote interval = demote_on_fail c r
 on_fail_of_op c r Monitor interval = on_fail_of_monitor (monitors c r) interval
 
--- what the failure of an action leads to (Pacemaker Explained, "on-fail"); of a probe and of a migration it is restart (rule of this project)
+-- what the failure of an action leads to (Pacemaker Explained, "on-fail"); of a fence, a probe and a migration it is restart (rule of this project)
 abbrev pub on_fail_of_action : Cluster → Action → OnFail
 on_fail_of_action c (Fence n) = on_fail.Restart
 on_fail_of_action c (Probe r n) = on_fail.Restart

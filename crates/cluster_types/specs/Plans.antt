@@ -52,7 +52,7 @@ module _ (c : Cluster) (es : List Event) (promotions : List Promotion) where
     pub goals : IsPlaced placed
     pub numbered : AreNumbered c (Needed c es (targets_of placed.table)) actions
 
--- of two numbers, from 1, the one action must have succeeded before the other begins
+-- of the actions of two numbers, if both are there, the one must have succeeded before the other begins
 abbrev pub precedes_by_number : Cluster → List Action → Option Action → Option Action → Bool
 precedes_by_number c actions (Some x) (Some y) = must_precede c actions (is_earlier c actions) x y
 precedes_by_number c actions _ _ = false

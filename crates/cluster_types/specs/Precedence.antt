@@ -1,4 +1,5 @@
--- What the words of an order give, take and undo; and Precedes as a test, which the program computes (they agree: `precedence_is_computed`).
+-- What the words of an order give, take and undo; what an action counts as; and Precedes as a test that can be computed (they agree:
+-- `precedence_is_computed`).
 use Rattle.std.specs.Prelude.{ℕ, nat_lt, ◌==◌, ◌&&◌, ◌||◌, Bool, true, false, not, if◌then◌else◌, Option, Some, None, List, [], ◌∷◌, length}
 use Rattle.std.specs.List.{list_any}
 use Rattle.cluster_types.specs.declared.cluster.Cluster.{Cluster}
@@ -43,7 +44,13 @@ abbrev pub role_given : Op → Role
 role_given op.Promote = role.Promoted
 role_given _ = role.Started
 
--- the word of what undoes it
+-- the words whose actions take away what the word gives
+abbrev pub takers : Op → List Op
+takers op.Start = op.Stop ∷ []
+takers op.Promote = op.Demote ∷ op.Stop ∷ []
+takers _ = []
+
+-- the word that undoes what this word does
 abbrev pub inverse : Op → Op
 inverse op.Start = op.Stop
 inverse op.Stop = op.Start
@@ -51,19 +58,71 @@ inverse op.Promote = op.Demote
 inverse op.Demote = op.Promote
 inverse op.Monitor = op.Monitor
 
-abbrev pub probe_cell : Action → Option LeafOnNode
-probe_cell (Probe r n) = cell_of r n
-probe_cell _ = None
+-- the action sends the leaf off
+abbrev pub sends : ℕ → Action → Bool
+sends r (MigrateTo leaf source target) = leaf == r
+sends r _ = false
 
--- the cell on which the action is this operation
+-- the leaf migrates, by the actions
+abbrev pub is_migrating : List Action → ℕ → Bool
+is_migrating actions r = list_any (sends r) actions
+
+-- What an action counts as, and on which cell. An operation counts as itself; a migration takes the place of a stop and a start (Pacemaker Explained,
+-- "Migrating Resources"). In an order its taking in counts, as the earlier, as the start on the target; its sending counts, as the later, as the start on the
+-- target and as the stop on the source, and the stop of a leaf that migrates counts there as none. After a probe, after a fence and in a separation, too, its
+-- sending counts, as the later, as the start on the target. In every other case a migration counts as no operation, and a stop as itself.
+
+-- as this operation, by itself
 abbrev pub op_cell : Op → Action → Option LeafOnNode
 op_cell o (Operation p r n interval role) = if is_same_op o p then cell_of r n else None
 op_cell o _ = None
 
--- the cell that gets a start by the action. A migration that sends stands for the start on its target
+-- as a start, as the later of a pair
 abbrev pub start_cell : Action → Option LeafOnNode
 start_cell (MigrateTo r source target) = cell_of r target
 start_cell a = op_cell op.Start a
+
+-- as this operation, as the earlier of a pair
+abbrev pub as_earlier : Op → Action → Option LeafOnNode
+as_earlier op.Start (MigrateFrom r source target) = cell_of r target
+as_earlier o a = op_cell o a
+
+-- as this operation, as the later of a pair
+abbrev pub as_later : List Action → Op → Action → Option LeafOnNode
+as_later actions op.Start a = start_cell a
+as_later actions op.Stop (MigrateTo r source target) = cell_of r source
+as_later actions op.Stop (Operation op.Stop r n interval role) = if is_migrating actions r then None else cell_of r n
+as_later actions op.Stop _ = None
+as_later actions o a = op_cell o a
+
+-- as what gives the leaf this role, as the later of a pair
+abbrev pub gives_role : Role → Action → Option LeafOnNode
+gives_role role.Started a = start_cell a
+gives_role role.Promoted a = op_cell op.Promote a
+
+-- as what gives it a role, whichever
+abbrev pub gives_any : Action → Option LeafOnNode
+gives_any (Operation op.Promote r n interval played) = gives_role role.Promoted (Operation op.Promote r n interval played)
+gives_any a = gives_role role.Started a
+
+-- as the earlier of a pair: where it takes this role from the leaf, or probes for it
+abbrev pub takes_or_probes : Role → Action → Option LeafOnNode
+takes_or_probes role.Started (Probe r n) = cell_of r n
+takes_or_probes role.Started a = op_cell op.Stop a
+takes_or_probes role.Promoted (Probe r n) = cell_of r n
+takes_or_probes role.Promoted (Operation op.Demote r n interval role) = cell_of r n
+takes_or_probes role.Promoted a = op_cell op.Stop a
+
+-- as a probe
+abbrev pub probe_cell : Action → Option LeafOnNode
+probe_cell (Probe r n) = cell_of r n
+probe_cell _ = None
+
+-- as a start, stop, promote or demote, by itself
+abbrev pub change_cell : Action → Option LeafOnNode
+change_cell (Operation op.Monitor r n interval role) = None
+change_cell (Operation o r n interval role) = cell_of r n
+change_cell _ = None
 
 -- both cells are there, and stand so to each other
 abbrev pub both : (LeafOnNode → LeafOnNode → Bool) → Option LeafOnNode → Option LeafOnNode → Bool
@@ -80,59 +139,6 @@ abbrev pub is_some_cell : Option LeafOnNode → Bool
 is_some_cell (Some a) = true
 is_some_cell None = false
 
--- the cell whose leaf the action starts, a migration that sends too, or promotes
-abbrev pub gives_any : Action → Option LeafOnNode
-gives_any (Operation op.Promote r n interval role) = cell_of r n
-gives_any a = start_cell a
-
--- the cell whose leaf gets the role by the action
-abbrev pub gives_role : Role → Action → Option LeafOnNode
-gives_role role.Started a = start_cell a
-gives_role role.Promoted a = op_cell op.Promote a
-
--- the cell whose leaf loses the role by the action, or is probed by it
-abbrev pub takes_or_probes : Role → Action → Option LeafOnNode
-takes_or_probes role.Started (Probe r n) = cell_of r n
-takes_or_probes role.Started a = op_cell op.Stop a
-takes_or_probes role.Promoted (Probe r n) = cell_of r n
-takes_or_probes role.Promoted (Operation op.Demote r n interval role) = cell_of r n
-takes_or_probes role.Promoted a = op_cell op.Stop a
-
--- the cell of one of the four: a start, stop, promote or demote
-abbrev pub change_cell : Action → Option LeafOnNode
-change_cell (Operation op.Monitor r n interval role) = None
-change_cell (Operation o r n interval role) = cell_of r n
-change_cell _ = None
-
--- the words whose actions take away what the word gives
-abbrev pub takers : Op → List Op
-takers op.Start = op.Stop ∷ []
-takers op.Promote = op.Demote ∷ op.Stop ∷ []
-takers _ = []
-
--- the action sends the leaf off
-abbrev pub sends : ℕ → Action → Bool
-sends r (MigrateTo leaf source target) = leaf == r
-sends r _ = false
-
--- the leaf migrates, by the actions
-abbrev pub is_migrating : List Action → ℕ → Bool
-is_migrating actions r = list_any (sends r) actions
-
--- the action as the earlier of a pair by an order's word: a migration that takes in stands for the start on its target too
-abbrev pub as_earlier : Op → Action → Option LeafOnNode
-as_earlier op.Start (MigrateFrom r source target) = cell_of r target
-as_earlier o a = op_cell o a
-
--- the action as the later: a migration that sends stands for the start on its target and for the stop on its source; the stop of a leaf that migrates
--- stands for nothing
-abbrev pub as_later : List Action → Op → Action → Option LeafOnNode
-as_later actions op.Start a = start_cell a
-as_later actions op.Stop (MigrateTo r source target) = cell_of r source
-as_later actions op.Stop (Operation op.Stop r n interval role) = if is_migrating actions r then None else cell_of r n
-as_later actions op.Stop _ = None
-as_later actions o a = op_cell o a
-
 -- a probe of a leaf comes before its starts and promotes, on whatever node
 abbrev pub probes_first : Action → Action → Bool
 probes_first x y = both is_one_leaf (probe_cell x) (gives_any y)
@@ -147,7 +153,7 @@ abbrev pub fences_first : Action → Action → Bool
 fences_first (Fence n) y = is_some_cell (gives_any y)
 fences_first _ y = false
 
--- on one cell: demote before stop, start before promote, and each of the four before a monitor
+-- on one cell: demote before stop, start before promote, and each of these four before a monitor
 abbrev pub comes_first_in_cell : Action → Action → Bool
 comes_first_in_cell x y =
     both is_one_cell (op_cell op.Demote x) (op_cell op.Stop y)
@@ -198,7 +204,7 @@ is_ordered actions o x y =
     not (is_serialize o.kind)
     && (is_ordered_pair actions o o.first_op o.first o.then_op o.then_leaf x y || o.symmetrical && is_inverse_pair actions o x y)
 
--- the one action is one of the four of the order's first, the other one of its then, in scope
+-- the one action is a start, stop, promote or demote of the order's first, the other one of its then, in scope
 abbrev pub is_across : Order → Action → Action → Bool
 is_across o x y = both (λ a b. a.leaf == o.first && b.leaf == o.then_leaf && is_in_scope o a.node b.node) (change_cell x) (change_cell y)
 

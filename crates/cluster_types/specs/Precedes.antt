@@ -7,42 +7,31 @@ use Rattle.cluster_types.specs.declared.journal.Action.TheVariants.{Fence, Probe
 use Rattle.cluster_types.specs.declared.leaf.Op.{Op}
 use Rattle.cluster_types.specs.declared.leaf.Op.TheVariants as op
 use Rattle.cluster_types.specs.declared.leaf.Role.{Role}
-use Rattle.cluster_types.specs.declared.leaf.Role.TheVariants as role
 use Rattle.cluster_types.specs.declared.rules.Colocation.{Colocation}
 use Rattle.cluster_types.specs.declared.rules.Order.{Order}
 use Rattle.cluster_types.specs.Choice.{is_separation}
 use Rattle.cluster_types.specs.Fields.{copies}
-use Rattle.cluster_types.specs.Precedence.{inverse, is_migrating, is_serialize, is_giving, takers}
+use Rattle.cluster_types.specs.Precedence.{as_earlier, as_later, cell_of, gives_role, inverse, is_giving, is_serialize, op_cell, takers, takes_or_probes}
 use Rattle.cluster_types.specs.Tables.{is_in_scope}
 
--- the action is this operation of a leaf on a node
-pub data IsOperation (o : Op) : Action → ℕ → ℕ → Type 0 where
-  operation : (r n interval : ℕ) (role : Role) → IsOperation o (Operation o r n interval role) r n
+-- What an action counts as on a leaf and a node is said in `Precedence`: by itself, as the earlier and as the later of a pair, and what it gives and takes.
 
--- which operation an action counts as where it must come first: its own; and the taking in of a migration also as the start on its target (Pacemaker
--- Explained, "Migrating Resources": a migration takes the place of a stop and a start)
-pub data CountsAsFirst : Op → Action → ℕ → ℕ → Type 0 where
-  first_itself : (o : Op) (x : Action) (r n : ℕ) → IsOperation o x r n → CountsAsFirst o x r n
-  first_taken_in : (r source target : ℕ) → CountsAsFirst op.Start (MigrateFrom r source target) r target
+abbrev pub IsOperation : Op → Action → ℕ → ℕ → Type 0
+IsOperation o x r n = op_cell o x ≡ cell_of r n
 
--- and where it must come later: its own, only that the stop of a leaf that migrates counts as none; and the sending of a migration as the start on its
--- target and as the stop on its source
-pub data CountsAsLater (actions : List Action) : Op → Action → ℕ → ℕ → Type 0 where
-  later_itself : (o : Op) (y : Action) (r n : ℕ) → IsOperation o y r n → (o ≡ op.Stop → is_migrating actions r ≡ false) → CountsAsLater actions o y r n
-  later_sent_to : (r source target : ℕ) → CountsAsLater actions op.Start (MigrateTo r source target) r target
-  later_sent_off : (r source target : ℕ) → CountsAsLater actions op.Stop (MigrateTo r source target) r source
+abbrev pub CountsAsFirst : Op → Action → ℕ → ℕ → Type 0
+CountsAsFirst o x r n = as_earlier o x ≡ cell_of r n
 
--- the operation that gives a role, as `role_given` says which role an operation gives. What takes the role away are its `takers`
-abbrev pub giver : Role → Op
-giver role.Started = op.Start
-giver role.Promoted = op.Promote
+abbrev pub CountsAsLater : List Action → Op → Action → ℕ → ℕ → Type 0
+CountsAsLater actions o y r n = as_later actions o y ≡ cell_of r n
 
--- the action takes the role from the leaf on the node, or probes whether the leaf has it
-pub data TakesOrProbes (taken : Role) : Action → ℕ → ℕ → Type 0 where
-  probes : (r n : ℕ) → TakesOrProbes taken (Probe r n) r n
-  takes : (p : Op) (x : Action) (r n : ℕ) → Contains (takers (giver taken)) p → IsOperation p x r n → TakesOrProbes taken x r n
+abbrev pub GivesRole : Role → Action → ℕ → ℕ → Type 0
+GivesRole given y r n = gives_role given y ≡ cell_of r n
 
--- on one cell: demote before stop, start before promote, and each of the four before a monitor
+abbrev pub TakesOrProbes : Role → Action → ℕ → ℕ → Type 0
+TakesOrProbes taken x r n = takes_or_probes taken x ≡ cell_of r n
+
+-- on one cell: demote before stop, start before promote, and each of these four before a monitor
 pub data ComesFirstOnCell : Op → Op → Type 0 where
   demote_stop : ComesFirstOnCell op.Demote op.Stop
   start_promote : ComesFirstOnCell op.Start op.Promote
@@ -79,23 +68,23 @@ pub data MigratesInTurn : Action → Action → Type 0 where
 module _ (c : Cluster) (actions : List Action) (is_earlier : Action → Action → Bool) where
   pub data Precedes : Action → Action → Type 0 where
     -- a leaf is probed, on every node, before it is started or promoted on any ("Monitoring Resources for Failure": probes show that it runs nowhere else)
-    probe : (r n m : ℕ) (given : Role) (y : Action) → CountsAsLater actions (giver given) y r m → Precedes (Probe r n) y
+    probe : (r n m : ℕ) (given : Role) (y : Action) → GivesRole given y r m → Precedes (Probe r n) y
     -- a leaf is stopped on a node before it is started there, and where it has fewer copies than there are nodes before it is started anywhere
     stop : (r n m : ℕ) (x y : Action) → IsOperation op.Stop x r n → IsOperation op.Start y r m → (n ≡ m) ⊎ (copies c r < length c.nodes) → Precedes x y
     -- a node is fenced before anything is started or promoted ("Fencing": what ran on it is down for sure)
-    fence : (n r m : ℕ) (given : Role) (y : Action) → CountsAsLater actions (giver given) y r m → Precedes (Fence n) y
+    fence : (n r m : ℕ) (given : Role) (y : Action) → GivesRole given y r m → Precedes (Fence n) y
     -- on one cell each operation has its turn
     same_cell : (r n : ℕ) (o p : Op) (x y : Action) → ComesFirstOnCell o p → IsOperation o x r n → IsOperation p y r n → Precedes x y
     -- a leaf is demoted or stopped, on every node, before it is promoted on any ("Promotable Clones": no more are promoted than may be)
     demote : (r n m : ℕ) (p : Op) (x y : Action) → Contains (takers op.Promote) p → IsOperation p x r n → IsOperation op.Promote y r m → Precedes x y
     -- where two leaves must be apart, what takes the role of the one on a node, or probes the one there, comes before what gives the other its own there
     apart : (col : Colocation) (r s n : ℕ) (taken given : Role) (x y : Action) → Contains c.colocations col → is_separation col ≡ true
-        → AreSides col r taken s given → TakesOrProbes taken x r n → CountsAsLater actions (giver given) y s n → Precedes x y
+        → AreSides col r taken s given → TakesOrProbes taken x r n → GivesRole given y s n → Precedes x y
     -- what an order puts first comes first, in its scope ("Specifying the Order in which Resources Should Start/Stop", kinds Mandatory and Optional)
     order : (o : Order) (p q : Op) (r s n m : ℕ) (x y : Action) → Contains c.orders o → is_serialize o.kind ≡ false → PutsFirst o p r q s
         → CountsAsFirst p x r n → CountsAsLater actions q y s m → is_in_scope o n m ≡ true → Precedes x y
-    -- of two operations of an order's leaves that must not go on at once, whatever its words, the lower number comes first (the same section, kind
-    -- Serialize)
+    -- of two starts, stops, promotes or demotes of an order's leaves, which must not go on at once whatever its words, the lower number comes first (the same
+    -- section, kind Serialize)
     serialize : (o : Order) (p q : Op) (r s n m : ℕ) (x y : Action) → Contains c.orders o → is_serialize o.kind ≡ true → AreEnds o r s
         → p ≢ op.Monitor → q ≢ op.Monitor → IsOperation p x r n → IsOperation q y s m → is_in_scope o n m ≡ true → is_earlier x y ≡ true → Precedes x y
     -- a migration has its turns ("Migrating Resources")

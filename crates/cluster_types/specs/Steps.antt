@@ -127,8 +127,8 @@ module _ (t : Transition) where
     abbrev pub is_settled : Bool
     is_settled = not (list_any may_begin numbers)
 
-    -- what is in flight, by number: each number in flight with its action. The same actions are in flight by begin
-    -- (`both_say_what_is_in_flight` of crate `run_safety`)
+    -- what is in flight, by number: each number in flight with its action. Where nothing was in flight
+    -- when it was planned, the same actions are in flight by begin (`both_say_what_is_in_flight` of crate `run_safety`)
     abbrev pub in_flight_by_number : List (ℕ × Action)
     in_flight_by_number = flat_map (λ k. option_map_or (λ a. (k, a) ∷ []) (action_at k) []) numbers_in_flight
 

@@ -33,8 +33,7 @@ target_holds goal role.Promoted = is_promoted_target goal
 
 -- the leaf holds the role on the node
 abbrev pub holds_role : Targets → ℕ → Role → ℕ → Bool
-holds_role table r role.Started n = is_somewhere (table r n)
-holds_role table r role.Promoted n = is_promoted_target (table r n)
+holds_role table r role n = target_holds (table r n) role
 
 -- the table with this target at one cell
 abbrev pub with_cell : Targets → ℕ → ℕ → Target → Targets

@@ -31,7 +31,7 @@ is_started role.Started = true
 is_started role.Promoted = false
 
 abbrev pub is_promoted : Role → Bool
-is_promoted r = not (is_started r)
+is_promoted role = not (is_started role)
 
 -- the leaf is active in the cell: it runs there, or may have failed there
 abbrev pub is_active : CellState → Bool
@@ -97,11 +97,11 @@ module _ (c : Cluster) (es : List Event) where
   abbrev pub ban_scores : ℕ → ℕ → List ℤ
   ban_scores r n = if is_banned c r n es then minus_infinity ∷ [] else []
 
-  -- in a cluster that isn't symmetric a leaf may only be where a location names it; the members of a group follow the first
+  -- in a cluster that isn't symmetric a leaf may only be where a location names it or a rule of its own holds; the members of a group follow the first
   abbrev pub opt_in_scores : ℕ → ℕ → List ℤ
   opt_in_scores r n = if not c.properties.symmetric && not (is_follower c r) && not (is_located r n) then minus_infinity ∷ [] else []
 
-  -- the own scores of a leaf on a node: its locations, its stickiness where it is active, and what keeps it away
+  -- the own scores of a leaf on a node: its locations of role Started, its stickiness where it is active, and what keeps it away
   abbrev pub own_terms : ℕ → ℕ → List ℤ
   own_terms r n = location_scores is_started r n ++ stickiness_scores r n ++ ban_scores r n ++ opt_in_scores r n
 
@@ -121,7 +121,7 @@ module _ (c : Cluster) (es : List Event) where
   abbrev pub with_lenders : ℕ → List ℕ
   with_lenders r = fold with_lender (r ∷ []) (lenders c r)
 
-  -- the total of a decision on a node, before colocations
+  -- the total of a decision on a node, with what is lent to it and before the finite colocations
   abbrev pub base : List Promotion → Decision → ℕ → ℤ
   base promotions (Place r) n = total_of (terms_of (with_lenders r) n)
   base promotions (Promote r) n = total_of (promotion_score promotions r n ∷ location_scores is_promoted r n)

@@ -1,21 +1,37 @@
-//! What a cluster says of one of its leaves or nodes, by its number. A number that the cluster doesn't have gets the plainest value.
+//! What a cluster says of one of its leaves or nodes, by its number. A number that the cluster doesn't have gets 0, an empty text or list, false,
+//! `restart` or `Started`.
 
-ghost use Rattle.std.specs.Prelude.{◌≡◌};
+ghost use Rattle.std.specs.Prelude.{◌≡◌, slice_get};
+ghost use Rattle.std.specs.Option.{option_copied};
 ghost use Rattle.cluster_types.specs.AnswersThatApply.{role_of_interval};
 ghost use Rattle.cluster_types.specs.Fields as fields;
 ghost use Rattle.cluster_types.specs.NodeStates.{is_standby};
 
 use crate::cluster::Cluster;
-use crate::leaf::{LeafId, Monitor, Role, TargetRole};
-use crate::node::NodeId;
+use crate::leaf::{Leaf, LeafId, Monitor, Role, TargetRole};
+use crate::node::{Node, NodeId};
 use score::Score;
 
 impl Cluster {
+    /// The leaf of this number, if there is one.
+    pub fn leaf(&self, leaf: LeafId) -> Option<&Leaf>
+        ensures { option_copied result ≡ slice_get self.now.leaves leaf }
+    {
+        self.leaves.as_slice().get(leaf as usize)
+    }
+
+    /// The node of this number, if there is one.
+    pub fn node(&self, node: NodeId) -> Option<&Node>
+        ensures { option_copied result ≡ slice_get self.now.nodes node }
+    {
+        self.nodes.as_slice().get(node as usize)
+    }
+
     /// On how many nodes the leaf may run at once.
     pub fn copies(&self, leaf: LeafId) -> u32
         ensures { result ≡ fields.copies self.now leaf }
     {
-        match self.leaves.as_slice().get(leaf as usize) {
+        match self.leaf(leaf) {
             Some(leaf) => leaf.copies,
             None => 0,
         }
@@ -25,7 +41,7 @@ impl Cluster {
     pub fn promoted_copies(&self, leaf: LeafId) -> u32
         ensures { result ≡ fields.promoted_copies self.now leaf }
     {
-        match self.leaves.as_slice().get(leaf as usize) {
+        match self.leaf(leaf) {
             Some(leaf) => leaf.promoted_copies,
             None => 0,
         }
@@ -35,7 +51,7 @@ impl Cluster {
     pub fn is_cloned(&self, leaf: LeafId) -> bool
         ensures { result ≡ fields.is_cloned self.now leaf }
     {
-        match self.leaves.as_slice().get(leaf as usize) {
+        match self.leaf(leaf) {
             Some(leaf) => leaf.cloned,
             None => false,
         }
@@ -45,7 +61,7 @@ impl Cluster {
     pub fn is_promotable(&self, leaf: LeafId) -> bool
         ensures { result ≡ fields.is_promotable self.now leaf }
     {
-        match self.leaves.as_slice().get(leaf as usize) {
+        match self.leaf(leaf) {
             Some(leaf) => leaf.promotable,
             None => false,
         }
@@ -55,7 +71,7 @@ impl Cluster {
     pub fn is_follower(&self, leaf: LeafId) -> bool
         ensures { result ≡ fields.is_follower self.now leaf }
     {
-        match self.leaves.as_slice().get(leaf as usize) {
+        match self.leaf(leaf) {
             Some(leaf) => leaf.follower,
             None => false,
         }
@@ -65,7 +81,7 @@ impl Cluster {
     pub fn is_managed(&self, leaf: LeafId) -> bool
         ensures { result ≡ fields.is_managed self.now leaf }
     {
-        match self.leaves.as_slice().get(leaf as usize) {
+        match self.leaf(leaf) {
             Some(leaf) => leaf.managed,
             None => false,
         }
@@ -75,7 +91,7 @@ impl Cluster {
     pub fn may_migrate(&self, leaf: LeafId) -> bool
         ensures { result ≡ fields.may_migrate self.now leaf }
     {
-        match self.leaves.as_slice().get(leaf as usize) {
+        match self.leaf(leaf) {
             Some(leaf) => leaf.migrates,
             None => false,
         }
@@ -85,7 +101,7 @@ impl Cluster {
     pub fn priority(&self, leaf: LeafId) -> Score
         ensures { result ≡ fields.priority self.now leaf }
     {
-        match self.leaves.as_slice().get(leaf as usize) {
+        match self.leaf(leaf) {
             Some(leaf) => leaf.priority,
             None => Score { points: 0 },
         }
@@ -95,7 +111,7 @@ impl Cluster {
     pub fn threshold(&self, leaf: LeafId) -> Score
         ensures { result ≡ fields.threshold self.now leaf }
     {
-        match self.leaves.as_slice().get(leaf as usize) {
+        match self.leaf(leaf) {
             Some(leaf) => leaf.threshold,
             None => Score { points: 0 },
         }
@@ -105,7 +121,7 @@ impl Cluster {
     pub fn failure_timeout(&self, leaf: LeafId) -> u32
         ensures { result ≡ fields.failure_timeout self.now leaf }
     {
-        match self.leaves.as_slice().get(leaf as usize) {
+        match self.leaf(leaf) {
             Some(leaf) => leaf.timeout_ms,
             None => 0,
         }
@@ -115,7 +131,7 @@ impl Cluster {
     pub fn monitors(&self, leaf: LeafId) -> &[Monitor]
         ensures { result.now ≡ fields.monitors self.now leaf }
     {
-        match self.leaves.as_slice().get(leaf as usize) {
+        match self.leaf(leaf) {
             Some(leaf) => leaf.monitors.as_slice(),
             None => &[],
         }
@@ -138,7 +154,7 @@ impl Cluster {
     pub fn target_role(&self, leaf: LeafId) -> TargetRole
         ensures { result ≡ fields.target_role_of self.now leaf }
     {
-        match self.leaves.as_slice().get(leaf as usize) {
+        match self.leaf(leaf) {
             Some(leaf) => leaf.target_role,
             None => TargetRole::Started,
         }
@@ -148,7 +164,7 @@ impl Cluster {
     pub fn leaf_name(&self, leaf: LeafId) -> &[u8]
         ensures { result.now ≡ fields.leaf_name self.now leaf }
     {
-        match self.leaves.as_slice().get(leaf as usize) {
+        match self.leaf(leaf) {
             Some(leaf) => leaf.name.bytes(),
             None => &[],
         }
@@ -158,7 +174,7 @@ impl Cluster {
     pub fn is_standby(&self, node: NodeId) -> bool
         ensures { result ≡ is_standby self.now node }
     {
-        match self.nodes.as_slice().get(node as usize) {
+        match self.node(node) {
             Some(node) => node.standby,
             None => false,
         }

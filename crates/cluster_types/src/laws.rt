@@ -92,7 +92,7 @@ pub fn precedence_is_computed()
 {}
 
 /// The actions that are needed have one list in the order of their numbers, and each action stands at one position of it.
-pub fn numbers_are_given_once()
+pub fn numbers_are_unique()
     ensures one_list { (c : Cluster) (events : List Event) (targets : Targets) (xs ys : List Action)
         → AreNumbered c (cycling.Needed c events targets) xs → AreNumbered c (cycling.Needed c events targets) ys → xs ≡ ys }
     ensures one_number { (c : Cluster) (events : List Event) (targets : Targets) (xs : List Action) (i j : ℕ) (a : Action)

@@ -1,7 +1,8 @@
 ghost use Rattle.std.specs.Prelude.{◌≡◌};
+ghost use Rattle.cluster_types.specs.OperationNames.{operation_named};
 ghost use Rattle.cluster_types.specs.Precedence as precedence;
 
-use crm_lex::Name;
+use crm_lex::{Name, is};
 use listed::Listed;
 use score::Score;
 
@@ -28,6 +29,25 @@ pub enum Op {
 }
 
 impl Op {
+    /// The operation of this name; names are in lower case. None for any other word.
+    pub fn from_word(word: &[u8]) -> Option<Op>
+        ensures { result ≡ operation_named word.now }
+    {
+        if is(word, b"start") {
+            Some(Op::Start)
+        } else if is(word, b"stop") {
+            Some(Op::Stop)
+        } else if is(word, b"promote") {
+            Some(Op::Promote)
+        } else if is(word, b"demote") {
+            Some(Op::Demote)
+        } else if is(word, b"monitor") {
+            Some(Op::Monitor)
+        } else {
+            None
+        }
+    }
+
     /// Whether the operation gives a role.
     pub fn is_up(self) -> bool
         ensures { result ≡ precedence.is_giving self }

@@ -30,9 +30,9 @@ pub use journal::{Action, Answer, Event, Journal, Outcome, Promotion};
 pub use laws::{
     cycled_is_the_least_set, each_has_its_state, first_journal_has_nothing_in_flight,
     first_journal_is_in_order, held_is_the_least_set, loads_after_a_cell, may_after_one_more,
-    moments_stay_below_their_limit, numbers_are_given_once, paths_are_computed,
-    precedence_is_computed, predecessors_first, promoted_after_one_more, promoted_may_run,
-    rising_edges_make_a_graph, silent_ends_are_of_the_first_in_flight, transitions_are_eager,
+    moments_stay_below_their_limit, numbers_are_unique, paths_are_computed, precedence_is_computed,
+    predecessors_first, promoted_after_one_more, promoted_may_run, rising_edges_make_a_graph,
+    silent_ends_are_of_the_first_in_flight, transitions_are_eager,
 };
 pub use leaf::{Leaf, LeafId, Monitor, OnFail, Op, Role, TargetRole};
 pub use moment::moment_of;

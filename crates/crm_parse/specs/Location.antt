@@ -26,7 +26,7 @@ rule_id_at words = do
   id ← some_name (prefixed_at (codes "$id=") words).0
   Ok (id, (prefixed_at (codes "$id=") words).1)
 
--- what stands after one text or another in the next word
+-- what stands after `$role=` or `role=` in the next word
 abbrev pub either_at : Words → Option (List ℕ) × Words
 either_at words = elim (prefixed_at (codes "$role=") words).0 [
   | None ↦ prefixed_at (codes "role=") words

@@ -20,7 +20,7 @@ first_word (word ∷ words) = word
 abbrev pub begins_with : List ℕ → Line → Bool
 begins_with word line = is (first_word line.words) word
 
--- the first byte is a percent sign
+-- the first byte is a percent sign (37)
 abbrev pub has_percent : List ℕ → Bool
 has_percent [] = false
 has_percent (b ∷ bs) = b == 37
@@ -30,7 +30,7 @@ abbrev pub is_mark : Line → Bool
 is_mark line = has_percent (first_word line.words)
 
 -- a section line is in its place, after the lines before it: it has one word, which is `%status` where no section has begun, or the name of
--- the last section where that one has not begun
+-- the last section (`%results`, `%trace`) where that one has not begun
 abbrev pub is_in_place : List ℕ → List Line → Line → Bool
 is_in_place last before line =
     (length line.words == 1)

@@ -36,7 +36,7 @@ pub fn lines_are_read_as_they_say()
 {}
 
 /// The words of a line say one statement and no other, so no two statements have the same words.
-pub fn a_line_says_one_statement()
+pub fn statements_of_lines_are_unique()
     ensures { (before : List DraftOf) (words : List (List ℕ)) (one other : StatementOf) → LineSays before words one → LineSays before words other
         → one ≡ other }
 {}
@@ -91,7 +91,7 @@ pub fn settings_are_read_as_they_say()
 {}
 
 /// The lines of a text say the statements of one configuration and no other.
-pub fn a_text_says_one_configuration()
+pub fn configurations_of_texts_are_unique()
     ensures { (lines : List LineOf) (one other : List DraftOf) → ConfigurationSays lines one → ConfigurationSays lines other → one ≡ other }
 {}
 

@@ -55,13 +55,13 @@ mod laws;
 pub use fault::{ParseCause, ParseFault, parse_name};
 pub use form::{Form, OrderStep, Side};
 pub use laws::{
-    a_fault_stays_whatever_stands_behind, a_line_says_one_statement,
-    a_line_that_ends_too_early_lacks_a_word, a_missing_word_is_missing_at_the_end_or_in_a_section,
-    a_refused_line_has_a_first_faulty_word, a_text_says_one_configuration,
-    clones_are_read_as_they_say, colocations_are_read_as_they_say, groups_are_read_as_they_say,
-    lines_are_read_as_they_say, lines_that_say_nothing_are_refused, locations_are_read_as_they_say,
-    nodes_are_read_as_they_say, orders_are_read_as_they_say, primitives_are_read_as_they_say,
-    settings_are_read_as_they_say,
+    a_fault_stays_whatever_stands_behind, a_line_that_ends_too_early_lacks_a_word,
+    a_missing_word_is_missing_at_the_end_or_in_a_section, a_refused_line_has_a_first_faulty_word,
+    clones_are_read_as_they_say, colocations_are_read_as_they_say,
+    configurations_of_texts_are_unique, groups_are_read_as_they_say, lines_are_read_as_they_say,
+    lines_that_say_nothing_are_refused, locations_are_read_as_they_say, nodes_are_read_as_they_say,
+    orders_are_read_as_they_say, primitives_are_read_as_they_say, settings_are_read_as_they_say,
+    statements_of_lines_are_unique,
 };
 pub use marks::{AuditMarks, SectionMarks, audit_sections, sections};
 pub use operations::{interval_of, recurs, value_of};

@@ -5,7 +5,7 @@ ghost use Rattle.std.specs.List.{list_any};
 ghost use Rattle.std.specs.Option.{option_and_then, option_copied, option_map_or};
 ghost use Rattle.crm_lex.specs.Names.{is};
 ghost use Rattle.crm_parse.specs.Keys.{is_monitor_name};
-ghost use Rattle.crm_parse.specs.Operations.{has_op, has_monitor_room, interval_in, interval_of, is_off, is_single, new_name, op_name, op_pairs, operation_of, recurs, says_no, value_of, with_op_pair, with_op_pairs};
+ghost use Rattle.crm_parse.specs.Operations.{has_op, has_monitor_room, interval_in, interval_of, is_off, is_single, new_name, op_pairs, operation_of, recurs, says_no, value_of, with_op_pair, with_op_pairs};
 ghost use Rattle.faults.specs.Reading.{Reads};
 ghost use Rattle.faults.specs.Inner.Reading.{GivesInLine};
 ghost use Rattle.crm_parse.specs.Values.{time_of};
@@ -24,24 +24,6 @@ use std::alloc::Global;
 
 /// The most recurring monitors of a primitive.
 const MOST_MONITORS: usize = 8;
-
-fn op_name(name: &[u8]) -> OpName
-    ensures { result ≡ op_name name.now }
-{
-    if is(name, b"start") {
-        OpName::Start
-    } else if is(name, b"stop") {
-        OpName::Stop
-    } else if is(name, b"promote") {
-        OpName::Promote
-    } else if is(name, b"demote") {
-        OpName::Demote
-    } else if is(name, b"monitor") {
-        OpName::Monitor
-    } else {
-        OpName::Other
-    }
-}
 
 fn is_single(name: OpName) -> bool
     ensures { result ≡ is_single name }
@@ -70,7 +52,7 @@ fn new_name<'a>(ops: &[Operation], word: &'a [u8]) -> Result<&'a [u8], ParseCaus
         return Err(ParseCause::Unsupported);
     }
     let name = name_of(word)?;
-    if is_single(op_name(name)) && has_op(ops, name) {
+    if is_single(OpName::from_word(name)) && has_op(ops, name) {
         Err(ParseCause::RepeatedKey)
     } else {
         Ok(name)
@@ -256,7 +238,7 @@ pub fn operation_of(alloc: Global, ops: &[Operation], words: &[Name]) -> Result<
         return Err(Stop::Cause(ParseCause::MissingWord));
     };
     let name = new_name(ops, word.bytes())?;
-    let pairs = op_pairs(alloc, ops, op_name(name), rest)?;
+    let pairs = op_pairs(alloc, ops, OpName::from_word(name), rest)?;
     Ok(Operation {
         name: Name::from_bytes(alloc, name)?,
         pairs,

@@ -3,6 +3,7 @@
 ghost use Rattle.std.specs.Prelude.{◌≡◌};
 ghost use Rattle.crm_parse.specs.Values.{action_of, bool_of, count_of, digits_before, kind_of, role_of, says, time_of, unit_of};
 
+use crate::place::OpName;
 use crate::{ActionWord, KindWord};
 use faults::number_up_to;
 
@@ -86,16 +87,12 @@ pub fn kind_of(word: &[u8]) -> Option<KindWord>
 pub fn action_of(word: &[u8]) -> Option<ActionWord>
     ensures { result ≡ action_of word.now }
 {
-    if word == b"start".as_slice() {
-        Some(ActionWord::Start)
-    } else if word == b"stop".as_slice() {
-        Some(ActionWord::Stop)
-    } else if word == b"promote".as_slice() {
-        Some(ActionWord::Promote)
-    } else if word == b"demote".as_slice() {
-        Some(ActionWord::Demote)
-    } else {
-        None
+    match OpName::from_word(word) {
+        OpName::Start => Some(ActionWord::Start),
+        OpName::Stop => Some(ActionWord::Stop),
+        OpName::Promote => Some(ActionWord::Promote),
+        OpName::Demote => Some(ActionWord::Demote),
+        OpName::Monitor | OpName::Other => None,
     }
 }
 

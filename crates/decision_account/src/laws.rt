@@ -80,7 +80,7 @@ pub fn holders_hold_back()
 {}
 
 /// Of one cluster, journal and list of promotion scores there is one text of how the decisions came about, and no more.
-pub fn there_is_one_account()
+pub fn an_account_exists_and_is_unique()
     ensures some { (c : ClusterOf) (events : List EventOf) (promotions : List PromotionOf)
         → (placed : PlacedOf) × (text : List ℕ) × IsWhyText c events promotions placed text }
     ensures no_more { (c : ClusterOf) (events : List EventOf) (promotions : List PromotionOf) (one other : PlacedOf) (x y : List ℕ)

@@ -4,6 +4,6 @@
 mod laws;
 
 pub use laws::{
-    holders_hold_back, parts_add_up, scores_are_left, the_best_are_chosen, there_is_one_account,
-    verdicts_are_true,
+    an_account_exists_and_is_unique, holders_hold_back, parts_add_up, scores_are_left,
+    the_best_are_chosen, verdicts_are_true,
 };

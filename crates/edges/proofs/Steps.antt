@@ -9,7 +9,8 @@ use Rattle.lemmas.proofs.Booleans.{sooner, unless}
 use Rattle.lemmas.proofs.Counts.{count-is, count_none, count_some}
 use Rattle.edges.specs.declared.edge.Edge.{Edge}
 use Rattle.edges.specs.Loops.{EndsWithin}
-use Rattle.edges.specs.Inner.Clearing.{Clears, LeadsBack, cleared_then, less_one, edges_beyond}
+use Rattle.edges.specs.Inner.Clearing.{Clears, LeadsBack, cleared_then, edges_beyond}
+use Rattle.edges.specs.Rows.{less_one}
 use Rattle.edges.specs.Sources.{is_in_list, sources_of}
 use Rattle.edges.proofs.Counts.{beyond, beyond_more}
 use Rattle.edges.proofs.Members.{equal_laws, has_push, has_front, not_before}

@@ -1,4 +1,5 @@
--- Chains of links, whatever is linked: each link leads on from where the one before it ends (rule of this project).
+-- Chains of links, whatever is linked: each link leads on from where the one before it ends; and which chain is the longest. LongestChains counts the edges
+-- of those between positions (rule of this project).
 use Rattle.std.specs.Prelude.{◌≤◌, ℕ, suc, zero, List, Contains}
 
 -- one of these links leads from the one to the other, by its two ends

@@ -1,4 +1,4 @@
--- How many edges the longest way to a position has (rule of this project).
+-- How many edges the longest way to a position has. A way is a chain of edges (see Chains; rule of this project).
 use Rattle.std.specs.Prelude.{◌≡◌, ◌+◌, ℕ, suc, zero, List, map, fold, max}
 use Rattle.edges.specs.declared.edge.Edge.{Edge}
 use Rattle.edges.specs.Sources.{sources_of}

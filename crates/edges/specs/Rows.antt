@@ -1,5 +1,5 @@
 -- Edges by their ends, and where those from each position lead (rule of this project).
-use Rattle.std.specs.Prelude.{ℕ, ◌==◌, List, map, filter, count_by}
+use Rattle.std.specs.Prelude.{ℕ, ◌-◌, ◌==◌, List, map, filter, count_by, slice_index_or, slice_set}
 use Rattle.std.specs.List.{range_with_len}
 use Rattle.edges.specs.declared.edge.Edge.{Edge}
 use Rattle.edges.specs.declared.side.Side.{Side}
@@ -13,6 +13,10 @@ end_of After e = e.after
 -- how many edges have this end at a position
 abbrev pub edges_at : Side → List Edge → ℕ → ℕ
 edges_at side edges x = count_by (λ e. x == end_of side e) edges
+
+-- these counts with one edge of the position counted off
+abbrev pub less_one : List ℕ → ℕ → List ℕ
+less_one counts x = slice_set counts x (slice_index_or counts x 0 - 1)
 
 -- where the edges from a position lead
 abbrev pub edge_targets_of : List Edge → ℕ → List ℕ

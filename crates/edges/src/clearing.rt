@@ -1,9 +1,11 @@
 ghost use Rattle.std.specs.Prelude.{◌≡◌, ◌↔◌, ◌≤◌, ◌<◌, ◌-◌, ◌++◌, ◌∷◌, ◌==◌, [], ℕ, List, true, false, if◌then◌else◌, IfOk, OnOk, count_by, slice_index_or, slice_set};
 ghost use Rattle.edges.specs.declared.edge.Edge.{Edge};
 ghost use Rattle.edges.specs.Loops.{EndsWithin, HasNoLoop, HasLoop};
-ghost use Rattle.edges.specs.Inner.Clearing.{Clears, cleared_then, less_one, AreCleared};
+ghost use Rattle.edges.specs.Inner.Clearing.{Clears, cleared_then, AreCleared};
+ghost use Rattle.edges.specs.Rows.{less_one};
 
 use crate::edge::Edge;
+use crate::side::count_off;
 use crate::sources::{leaving, sources, unused};
 use std::alloc::{AllocError, Global};
 
@@ -33,9 +35,7 @@ impl Clearing {
         ensures waiting { OnOk result (self.new.waiting.items ≡ less_one self.old.waiting.items source) }
         ensures cleared { OnOk result (self.new.cleared.items ≡ cleared_then self.old.waiting.items self.old.cleared.items source) }
     {
-        let left = self.waiting[source as usize] - 1;
-        self.waiting[source as usize] = left;
-        if left == 0 {
+        if count_off(&mut self.waiting, source) {
             self.cleared.push(source)?;
         }
         Ok(())

@@ -30,4 +30,4 @@ pub use laws::{
 };
 pub use measuring::{longest_ways, longest_ways_if_free};
 pub use rows::Rows;
-pub use side::{Side, count_ends};
+pub use side::{Side, count_ends, count_off};

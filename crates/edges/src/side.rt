@@ -1,6 +1,6 @@
-ghost use Rattle.std.specs.Prelude.{◌≡◌, ◌<◌, ℕ, IfOk, length, slice_index_or};
+ghost use Rattle.std.specs.Prelude.{◌≡◌, ◌<◌, ◌==◌, ℕ, IfOk, length, slice_index_or};
 ghost use Rattle.edges.specs.Loops.{EndsWithin};
-ghost use Rattle.edges.specs.Rows.{edges_at, end_of};
+ghost use Rattle.edges.specs.Rows.{edges_at, end_of, less_one};
 
 use crate::edge::Edge;
 use std::alloc::{AllocError, Global};
@@ -40,4 +40,15 @@ pub fn count_ends(
         counts[side.of(edge) as usize] += 1;
     }
     Ok(counts)
+}
+
+/// Counts off one edge at the position, and says whether none is left.
+pub fn count_off(counts: &mut [usize], position: u32) -> bool
+    requires { 0 < slice_index_or counts.old position 0 }
+    ensures counts { counts.new ≡ less_one counts.old position }
+    ensures last { result ≡ (slice_index_or counts.old position 0 == 1) }
+{
+    let left = counts[position as usize] - 1;
+    counts[position as usize] = left;
+    left == 0
 }

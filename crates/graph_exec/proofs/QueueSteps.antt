@@ -14,7 +14,7 @@ use Rattle.std.proofs.Math.Bool.{or-false}
 use Rattle.lemmas.proofs.Booleans.{sooner}
 use Rattle.lemmas.proofs.Counts.{count-is, count_some}
 use Rattle.edges.specs.Sources.{is_in_list}
-use Rattle.edges.specs.Inner.Clearing.{less_one}
+use Rattle.edges.specs.Rows.{less_one}
 use Rattle.edges.proofs.Members.{equal_laws, has_push, not_before}
 use Rattle.edges.proofs.Steps.{after_take, left_elsewhere}
 use Rattle.graph_exec.proofs.Beyond.{beyond, beyond_more}

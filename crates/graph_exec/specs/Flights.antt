@@ -1,4 +1,6 @@
 -- The actions of a transition as far as they went, and those in flight (rule of this project).
+-- This module and ReadyActions say how what is kept of them is read: by flags, one for each number. The promises speak of `pairs_in_flight` alone, which is
+-- the list of the actions in flight, each with its number, ascending.
 use Rattle.std.specs.Prelude.{ℕ, Bool, List, [], ◌∷◌}
 use Rattle.std.specs.List.{flat_map}
 use Rattle.std.specs.Option.{option_map_or}

@@ -17,7 +17,7 @@ abbrev pub tells_answer : RunLine → Bool
 tells_answer (line.Taken given) = true
 tells_answer _ = false
 
--- how many answers entered a journal with these events, silent ends among them
+-- how many lines of answers these events have, silent ends among them. Of a journal that grew in a run the difference says how many answers entered it
 abbrev pub answers_entered : List Event → ℕ
 answers_entered es = count_by tells_answer (flat_map event_lines es)
 

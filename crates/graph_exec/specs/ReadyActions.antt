@@ -1,4 +1,6 @@
 -- Which actions wait for no other any more: all that come before them have succeeded (rule of this project).
+-- This module and Flights say how what is kept of the actions is read: by flags, one for each number. The promises speak of none of these, but of what has
+-- happened, and of `pairs_in_flight` of Flights.
 use Rattle.std.specs.Prelude.{ℕ, ◌||◌, ◌&&◌, Bool, false, not, List, length, filter, replicate}
 use Rattle.std.specs.List.{list_all, range_with_len}
 use Rattle.cluster_types.specs.Graphs.{GraphOf, is_before}

@@ -30,7 +30,8 @@ pub record Setting : Type 0 where
 abbrev pub setting : Cluster → List Promotion → Bool → Bool → Setting
 setting c promotions whole steady = record { cluster = c; promotions = promotions; whole = whole; steady = steady }
 
--- the source at a moment: the answers to come, and whether it never fails from now on
+-- the source at a moment: the answers to come, and whether the source never fails from now on. No public definition reads the second: it is what one part of
+-- a run hands on to the next, so that a source that fails is known to have failed in no part before (specs/Inner/Turns.antt)
 pub record AnswersView : Type 0 where
   pub rest : Option (List Answer)
   pub over : Bool

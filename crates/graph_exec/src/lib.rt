@@ -12,7 +12,7 @@ mod run;
 pub use run::kept_run::replay;
 pub use run::stop::ReplayStop;
 pub use run::watched_run::replay_watched;
-pub use transition::course::Parts;
+pub use transition::course::{NotBegun, Parts};
 pub use transition::ends::{End, WatchedEnd};
 pub use transition::executor::{Executor, NotMade};
 pub use transition::failing::Failing;

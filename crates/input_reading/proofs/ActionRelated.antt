@@ -16,7 +16,7 @@ use Rattle.names.specs.Names.{leaf_of_word, node_of_word}
 use Rattle.faults.specs.Reading.{◌>>=◌}
 use Rattle.faults.proofs.Steps.{bind-ok}
 use Rattle.input_reading.specs.LineWords.{action_of_op, action_word, action_word_at}
-use Rattle.input_reading.specs.OpWords.{operation_named}
+use Rattle.cluster_types.specs.OperationNames.{operation_named}
 use Rattle.input_reading.specs.WordPlaces.{WordsOfLine, leaf_at, line_end_at, node_at, number_at, word_at}
 use Rattle.input_reading.specs.RunReading.{action_as, begin_line, fence_at_end, migrate_from_at_end, migrate_to_at_end, monitor_at_end, operation_at_end, probe_at_end}
 use Rattle.cluster_types.specs.declared.run.RunLine.{RunLine}

@@ -15,7 +15,7 @@ use Rattle.input_reading.specs.declared.words.word_cause.WordCause.TheVariants.{
 use Rattle.input_reading.specs.declared.status.line_meaning.NodeWord.{NodeWord}
 use Rattle.input_reading.specs.declared.status.line_meaning.Fact.{Fact}
 use Rattle.input_reading.specs.declared.status.line_meaning.Fact.TheVariants.{Now, Quorum, Node, Past, Promoting}
-use Rattle.input_reading.specs.OpWords.{operation_named}
+use Rattle.cluster_types.specs.OperationNames.{operation_named}
 use Rattle.input_reading.specs.WordPlaces.{WordsOfLine, leaf_at, line_end_at, node_at, seconds_at, word_at, yes_at}
 use Rattle.input_reading.specs.Status.{cleanup_line, history_action, interval_as, interval_at, may_have, node_line, node_word, now_line, op_at, op_line, outcome_at, outcome_of, promotable_at, promotion_line, quorum_line, score_at, state_at, status_word, told_as, told_of}
 use Rattle.input_reading.specs.Grammar.StatusForms.{SaysOutcome, SaysState, StatusSays, cleanup_form, node_form, now_form, op_form, promotion_form, quorum_form}

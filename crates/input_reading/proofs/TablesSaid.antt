@@ -6,7 +6,7 @@ use Rattle.crm_lex.specs.Names.{is}
 use Rattle.crm_parse.proofs.Binds.{is-true}
 use Rattle.cluster_types.specs.declared.leaf.Op.{Op}
 use Rattle.cluster_types.specs.declared.leaf.Op.TheVariants.{Start, Stop, Promote, Demote, Monitor}
-use Rattle.input_reading.specs.OpWords.{operation_named}
+use Rattle.cluster_types.specs.OperationNames.{operation_named}
 
 -- a word is this one, or the next question is asked
 pub ask-some : {P A : Type 0} (b : Bool) (x : A) (rest : Option A) (y : A) → cond b (Some x) rest ≡ Some y → (b ≡ true → x ≡ y → P) → (rest ≡ Some y → P) → P

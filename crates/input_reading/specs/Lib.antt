@@ -8,7 +8,6 @@ pub mod LineWords
 pub mod RunReading
 pub mod PrintedLines
 pub mod Numbers
-pub mod OpWords
 pub use Rattle.names.specs.Names
 pub mod WordPlaces
 pub mod Recovery

@@ -13,7 +13,7 @@ use Rattle.crm_lex.specs.Names.{is, is_name}
 use Rattle.faults.specs.Reading.{◌>>=◌}
 use Rattle.input_reading.specs.declared.words.word_cause.WordCause.{WordCause}
 use Rattle.input_reading.specs.declared.words.word_cause.WordCause.TheVariants.{BadValue}
-use Rattle.input_reading.specs.OpWords.{operation_named}
+use Rattle.cluster_types.specs.OperationNames.{operation_named}
 use Rattle.input_reading.specs.WordPlaces.{WordsOfLine, word_at}
 use Rattle.input_reading.specs.declared.run.words.ActionWord.{ActionWord}
 use Rattle.input_reading.specs.declared.run.words.ActionWord.TheVariants as action

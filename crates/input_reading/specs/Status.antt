@@ -19,7 +19,7 @@ use Rattle.faults.specs.Reading.{◌>>=◌}
 use Rattle.input_reading.specs.declared.words.word_cause.WordCause.{WordCause}
 use Rattle.input_reading.specs.declared.words.word_cause.WordCause.TheVariants.{BadValue, UnknownStatement}
 use Rattle.input_reading.specs.Numbers.{read_exit_code, read_interval}
-use Rattle.input_reading.specs.OpWords.{operation_named}
+use Rattle.cluster_types.specs.OperationNames.{operation_named}
 use Rattle.input_reading.specs.WordPlaces.{WordsOfLine, line_end_at, leaf_at, node_at, seconds_at, word_at, yes_at}
 use Rattle.input_reading.specs.declared.status.status_lines.StatusWord.{StatusWord}
 use Rattle.input_reading.specs.declared.status.status_lines.StatusWord.TheVariants as first

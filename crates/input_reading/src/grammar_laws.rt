@@ -29,7 +29,7 @@ pub fn result_lines_are_read_as_they_say()
 {}
 
 /// The words of a result line say one answer and no other, so no two answers have the same words.
-pub fn a_result_line_says_one_answer()
+pub fn answers_of_result_lines_are_unique()
     ensures { (c : ClusterOf) (moment : ℕ) (words : List (List ℕ)) (one other : AnswerOf) → ResultSays c moment words one
         → ResultSays c moment words other → one ≡ other }
 {}
@@ -48,7 +48,7 @@ pub fn run_lines_are_read_as_they_say()
 {}
 
 /// The words of a line of a run say one thing and no other, so no two meanings have the same words.
-pub fn a_run_line_says_one_thing()
+pub fn meanings_of_run_lines_are_unique()
     ensures { (c : ClusterOf) (words : List (List ℕ)) (one other : RunLineOf) → RunSays c words one → RunSays c words other → one ≡ other }
 {}
 
@@ -66,7 +66,7 @@ pub fn status_lines_are_read_as_they_say()
 {}
 
 /// The words of a line of a status say one fact and no other, so no two facts have the same words.
-pub fn a_status_line_says_one_fact()
+pub fn facts_of_status_lines_are_unique()
     ensures { (c : ClusterOf) (words : List (List ℕ)) (one other : FactOf) → StatusSays c words one → StatusSays c words other → one ≡ other }
 {}
 

@@ -14,7 +14,7 @@ ghost use Rattle.input_reading.specs.declared.input.trace.Trace.{Trace as TraceO
 ghost use Rattle.input_reading.specs.declared.results.result_lines.ResultLine.{ResultLine as ResultOf};
 
 /// A text is read as one input, or it has one fault, and never both.
-pub fn one_reading()
+pub fn readings_are_unique()
     ensures either { (text : List ℕ) → IsReadable text ⊎ IsFaultyText text }
     ensures not_both { (text : List ℕ) → IsReadable text → ¬ IsFaultyText text }
     ensures one_input { (text : List ℕ) (one other : InputOf) → ReadsInput text one → ReadsInput text other → one ≡ other }
@@ -23,7 +23,7 @@ pub fn one_reading()
 {}
 
 /// So it is with a text with a trace.
-pub fn one_reading_of_a_trace()
+pub fn readings_of_a_trace_are_unique()
     ensures either { (text : List ℕ) → IsReadableTrace text ⊎ IsFaultyTrace text }
     ensures not_both { (text : List ℕ) → IsReadableTrace text → ¬ IsFaultyTrace text }
     ensures one_trace { (text : List ℕ) (one other : TraceOf) → ReadsTrace text one → ReadsTrace text other → one ≡ other }

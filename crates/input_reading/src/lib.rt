@@ -30,12 +30,12 @@ mod laws;
 mod line_laws;
 
 pub use grammar_laws::{
-    a_result_line_says_one_answer, a_run_is_read_as_its_lines_say, a_run_line_says_one_thing,
-    a_status_is_read_as_its_lines_say, a_status_line_says_one_fact,
-    result_lines_are_read_as_they_say, result_lines_that_say_nothing_are_refused,
-    results_are_read_as_their_lines_say, run_lines_are_read_as_they_say,
-    run_lines_that_say_nothing_are_refused, status_lines_are_read_as_they_say,
-    status_lines_that_say_nothing_are_refused,
+    a_run_is_read_as_its_lines_say, a_status_is_read_as_its_lines_say,
+    answers_of_result_lines_are_unique, facts_of_status_lines_are_unique,
+    meanings_of_run_lines_are_unique, result_lines_are_read_as_they_say,
+    result_lines_that_say_nothing_are_refused, results_are_read_as_their_lines_say,
+    run_lines_are_read_as_they_say, run_lines_that_say_nothing_are_refused,
+    status_lines_are_read_as_they_say, status_lines_that_say_nothing_are_refused,
 };
 pub use history_fault::{ResultCause, ResultFault, StatusCause, StatusFault};
 pub use history_laws::first_journals_are_at_rest;
@@ -44,8 +44,8 @@ pub use input::fault::InputFault;
 pub use input::reading::{Head, Input, MOST_BYTES, read_input, read_lone_head};
 pub use input::trace::{Trace, read_trace};
 pub use laws::{
-    answers_that_are_read_fit, one_reading, one_reading_of_a_trace, the_limit_is_told,
-    what_is_read_is_valid,
+    answers_that_are_read_fit, readings_are_unique, readings_of_a_trace_are_unique,
+    the_limit_is_told, what_is_read_is_valid,
 };
 pub use line_laws::what_is_written_reads_again;
 pub use recovery::{Recovery, class_of};

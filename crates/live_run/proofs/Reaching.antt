@@ -29,7 +29,7 @@ use Rattle.live_run.specs.declared.course.Course.TheVariants as course
 use Rattle.live_run.specs.declared.line_stop.LineStop.{LineStop}
 use Rattle.live_run.specs.declared.line_stop.LineStop.TheVariants as why
 use Rattle.live_run.specs.Ends.{AsksForMore, EndGets, IsDueEnd, WholeRunGives, run_lines_text}
-use Rattle.live_run.specs.RunReached.{IsBrokenOff, HasSinkFailed, Reaches, of_held_back, in_run, of_refusal, of_unexpected, results_behind}
+use Rattle.live_run.specs.RunReached.{HasReadFailed, HasSinkFailed, Reaches, of_held_back, in_run, of_refusal, of_unexpected, results_behind}
 use Rattle.live_run.specs.Inner.RunEnds.{EndsLines, end_as}
 use Rattle.live_run.specs.declared.live_end.LiveEnd.{LiveEnd}
 use Rattle.live_run.specs.declared.live_end.LiveEnd.TheVariants as end
@@ -38,7 +38,7 @@ use Rattle.live_run.proofs.Dues.{begins_due, one_end}
 use Rattle.input_reading.specs.declared.results.result_lines.ResultLine.{ResultLine}
 use Rattle.graph_exec.specs.Replays.{setting, sight}
 use Rattle.graph_exec.proofs.Whole.{asks_still}
-use Rattle.live_run.specs.HeldAndWritten.{BreaksOff, GoesOut, Puts, PutsLast, last_text, most_held}
+use Rattle.live_run.specs.HeldAndWritten.{WritesInPart, GoesOut, Puts, PutsLast, last_text, most_held}
 use Rattle.graph_exec.specs.Replays as replays
 use Rattle.graph_exec.specs.RunEnds.{in_failure, unexpected, with_all}
 use Rattle.run_safety.specs.TwoRuns.{IsFront, at_first}
@@ -48,7 +48,7 @@ use Rattle.run_safety.proofs.Silent.{not_over}
 use Rattle.run_safety.proofs.SoFar.{runs_more}
 
 -- what was held back has left, or a front of it
-front_of : (text : List ℕ) (old new : Option (List ℕ)) → BreaksOff text [] old new → AddsPrefix text old new
+front_of : (text : List ℕ) (old new : Option (List ℕ)) → WritesInPart text [] old new → AddsPrefix text old new
 front_of text old new short = subst (λ (t : List ℕ). AddsPrefix t old new) (append-nil text) short.front
 
 module _ (c : Cluster) (journal : Journal) (reading : Reading) where
@@ -93,7 +93,7 @@ module _ (c : Cluster) (journal : Journal) (reading : Reading) where
         → Runs c journal.promotions (is_none (results_behind c journal reading left).stop) (due 1 journal.events) (Some (answers_to_come (results_behind c journal reading left))) lines at
         (rest_of (told_by t after))
         → IsAsking c journal.promotions (is_none (results_behind c journal reading left).stop) at ⊎ IsBetween c journal.promotions (is_none (results_behind c journal reading left).stop) at
-        → BreaksOff (run_lines_text c lines) [] old new → HasSinkFailed c journal reading left after old new
+        → WritesInPart (run_lines_text c lines) [] old new → HasSinkFailed c journal reading left after old new
     rest_cut left after old new t f lines at runs rests cut =
         let g = given_by c journal reading left after t f in
         let coming = results_behind c journal reading left in
@@ -179,7 +179,7 @@ module _ (c : Cluster) (journal : Journal) (reading : Reading) where
     broken_reached left after old middle new held t was is j tells none w h same = on after refl h.told
       where
         on : (o : Option (List ℕ)) → o ≡ after → Some (results_behind c journal reading left) ≡ option_map (λ rest. results_first h.given (coming_to t rest)) o
-            → IsBrokenOff c journal reading left after old new
+            → HasReadFailed c journal reading left after old new
         on None o e = cc
         on (Some unread) o e =
             let all = same_Some (results_behind c journal reading left) (results_first h.given (coming_to t unread)) e in
@@ -288,7 +288,7 @@ module _ (c : Cluster) (journal : Journal) (reading : Reading) where
             run = subst (λ (z : Option LineStop). Runs c journal.promotions (is_none z) (due 1 journal.events) (Some (answers_to_come coming)) printed more.run.last (Some [])) (sym stop)
                 more.run.steps;
             waits = inl (asks_still c journal.promotions false (is_none coming.stop) more.run.last more.run.asking);
-            one_more = inr refl;
+            one_more = inr (refl, stop);
           });
           read = inl (record { lines = lines; first = first; said = said ∙ sym all; ends = ends; bytes = bytes; taken = taken; near = near });
           cut = short;
@@ -339,7 +339,7 @@ module _ (c : Cluster) (journal : Journal) (reading : Reading) where
 
     -- the writer stopped the run
     cut_off_reached : (before after old new : Option (List ℕ)) (t : SourceState) (was is : Bool) (j : Journal)
-        → ((lines : List RunLine) (at : Option RunLine) → Stopped lines at → BreaksOff (run_lines_text c lines) (last_text c at) old new)
+        → ((lines : List RunLine) (at : Option RunLine) → Stopped lines at → WritesInPart (run_lines_text c lines) (last_text c at) old new)
         → replays.IsStopped Follows Stopped (along before after old new t was is) journal.events (sight (rest_of (told_by start before)) was) (sight (rest_of (told_by t after)) is) most j
         ⊎ replays.IsStoppedAsking Follows Stopped (along before after old new t was is) journal.events (sight (rest_of (told_by start before)) was) (sight (rest_of (told_by t after)) is) most j
         → SourceFollows start t before after → reaches before after old new t was is end.WriteFault
@@ -356,7 +356,7 @@ module _ (c : Cluster) (journal : Journal) (reading : Reading) where
         let text : run_lines_text c (w.lines ++ w.call) ≡ (run_lines_text c told ++ run_line c w.told.at) ++ run_lines_text c w.told.behind
         = ap (run_lines_text c) (ap (λ (ls : List RunLine). w.lines ++ ls) w.told.parts ∙ sym (append_assoc w.lines w.told.before (w.told.at ∷ w.told.behind)))
         ∙ (flat_map-append (run_line c) told (w.told.at ∷ w.told.behind) ∙ sym (append_assoc (run_lines_text c told) (run_line c w.told.at) (run_lines_text c w.told.behind))) in
-        let short : BreaksOff (run_lines_text c told) (run_line c w.told.at) old new = stops told (Some w.told.at) w.told.stopped in
+        let short : WritesInPart (run_lines_text c told) (run_line c w.told.at) old new = stops told (Some w.told.at) w.told.stopped in
         let front : AddsPrefix (run_lines_text c (w.lines ++ w.call)) old new
         = subst (λ (x : List ℕ). AddsPrefix x old new) (sym text)
         (prefix_first (run_lines_text c told ++ run_line c w.told.at) (run_lines_text c w.told.behind) old new short.front) in
@@ -479,13 +479,13 @@ module _ (c : Cluster) (journal : Journal) (reading : Reading) (s t : SourceStat
       → HasBroken s t before after ⊎ HasStopped s t before after → (how : LiveEnd) → EndsLines held (stop_of t) how middle new → IfSome before (λ left. Reaches c journal reading left after old new how)
   failed_from tells quiet w f how e = failed_reached c journal reading Follows Stopped most before after old middle new held t was is j (tells_so tells) quiet (rw fresh at w) (rw fresh at f) how e
 
-  pub cut_off_from : ((lines : List RunLine) (at : Option RunLine) → Stopped lines at → BreaksOff (run_lines_text d lines) (last_text d at) old new)
+  pub cut_off_from : ((lines : List RunLine) (at : Option RunLine) → Stopped lines at → WritesInPart (run_lines_text d lines) (last_text d at) old new)
       → replays.IsStopped Follows Stopped from journal.events (sight (rest_of (told_by s before)) was) (sight (rest_of (told_by t after)) is) most j
       ⊎ replays.IsStoppedAsking Follows Stopped from journal.events (sight (rest_of (told_by s before)) was) (sight (rest_of (told_by t after)) is) most j → SourceFollows s t before after
       → IfSome before (λ left. Reaches c journal reading left after old new end.WriteFault)
   cut_off_from stops w f =
       cut_off_reached c journal reading Follows Stopped most before after old new t was is j
-      (λ lines at told. subst (λ (x : Cluster). BreaksOff (run_lines_text x lines) (last_text x at) old new) names (stops lines at told)) (rw fresh at w) (rw fresh at f)
+      (λ lines at told. subst (λ (x : Cluster). WritesInPart (run_lines_text x lines) (last_text x at) old new) names (stops lines at told)) (rw fresh at w) (rw fresh at f)
 
   pub between_from : TellsBy → replays.IsBetweenTwo Follows Stopped from journal.events (sight (rest_of (told_by s before)) was) (sight (rest_of (told_by t after)) is) most → SourceFollows s t before after
       → (r : Result (Unit {0}) WriteFault) → Puts r held middle new → length held ≤ most_held → IfSome before (λ left. Reaches c journal reading left after old new (end_as end.NoMemory r))

@@ -1,6 +1,6 @@
 -- What is written of several lines, one after the other, and what is held back of them.
 use Rattle.std.specs.Prelude.{IsErr}
-use Rattle.std.proofs.Common.{◌≡◌, ◌≤◌, ℕ, Bool, Option, Some, Result, Ok, Err, List, [], ◌∷◌, ◌++◌, append-nil, append_assoc, length, length-append, refl, ap, sym, subst, ◌∙◌, arith}
+use Rattle.std.proofs.Common.{◌≡◌, ◌≤◌, inl, inr, ℕ, Bool, Option, Some, Result, Ok, Err, List, [], ◌∷◌, ◌++◌, append-nil, append_assoc, length, length-append, refl, ap, sym, subst, ◌∙◌, arith}
 use Rattle.cluster_io.specs.Streams.{Adds, Bears}
 use Rattle.cluster_io.specs.declared.sink.WriteFault.{WriteFault}
 use Rattle.cluster_io.proofs.Bearing.{Bears-as}
@@ -10,10 +10,10 @@ use Rattle.cluster_types.specs.declared.run.RunLine.{RunLine}
 use Rattle.cluster_types.specs.Texts.{run_line}
 use Rattle.graph_exec.specs.WatcherLines.{StopsAmong}
 use Rattle.live_run.specs.Ends.{run_lines_text}
-use Rattle.live_run.specs.SourceFollowedLaws.{lines_later, lines_then}
+use Rattle.live_run.specs.Inner.SourceFollowedLaws.{lines_later, lines_then}
 use Rattle.live_run.specs.Inner.Fronts.{short_rest}
-use Rattle.live_run.specs.HeldAndWritten.{BreaksOff, GoesOut, HasFailedBehind, HasWrittenLines, IsSameSink, Puts, PutsLast, WriterView, most_held}
-use Rattle.live_run.specs.Inner.WriteResults.{PutsBehind, PutsLine}
+use Rattle.live_run.specs.HeldAndWritten.{WritesInPart, GoesOut, HasFailedBehind, HasWrittenLines, IsSameSink, OffersHeld, OffersLast, Puts, PutsLast, WriterView, most_held}
+use Rattle.live_run.specs.Inner.WriteResults.{HoldsBehind, PutsBehind, PutsLine, has_left, has_room}
 
 -- and then all leaves
 pub goes_all : (r : Result (Unit {0}) WriteFault) (text held held_then : List ℕ) (before middle after : Option (List ℕ)) → GoesOut text held held_then before middle
@@ -24,6 +24,21 @@ goes_all (Err fault) text held held_then before middle after a p few =
     let size = ap length a.parts in
     short_rest held text a.out held_then before middle after a.parts a.written p
     (omega (arith, few, size, length-append held text, length-append a.out held_then))
+
+offers_together : (text held held_then : List ℕ) (before middle after : Option (List (List ℕ))) → held_then ≡ held ++ text → middle ≡ before
+    → OffersHeld held_then middle after → OffersHeld (held ++ text) before after
+offers_together text held held_then before middle after is same all =
+    subst (λ (t : List ℕ). OffersHeld t before after) is (subst (λ (m : Option (List (List ℕ))). OffersHeld held_then m after) same all)
+
+-- what is offered as a last text leaves behind what was held back
+pub offers_all : (r : Result (Unit {0}) WriteFault) (text held held_then : List ℕ) (before middle after : Option (List (List ℕ)))
+    → HoldsBehind text held held_then before middle → OffersHeld held_then middle after → OffersLast r text held before after
+offers_all (Ok done) text held held_then before middle after (has_room is same) all = inl (offers_together text held held_then before middle after is same all)
+offers_all (Ok done) text held held_then before middle after (has_left is first) all =
+    inr (record { between = middle; first = first; last = subst (λ (t : List ℕ). OffersHeld t middle after) is all })
+offers_all (Err fault) text held held_then before middle after (has_room is same) all = inl (inl (offers_together text held held_then before middle after is same all))
+offers_all (Err fault) text held held_then before middle after (has_left is first) all =
+    inl (inr (record { between = middle; first = first; last = subst (λ (t : List ℕ). OffersHeld t middle after) is all }))
 
 one_text : (c : Cluster) (line : RunLine) → run_lines_text c (line ∷ []) ≡ run_line c line
 one_text c line = append-nil (run_line c line)
@@ -47,7 +62,7 @@ puts_one exact old new same sink line (Ok done) p b = record {
 puts_one exact old new same sink line (Err fault) p b = record {
   names_stay = same;
   put = record { bears = bears_failed exact old.faults new.faults fault b; same_sink = sink };
-  text = subst (λ (t : List ℕ). BreaksOff t (run_line old.names line) old.written new.written) (sym (append-nil old.held)) p;
+  text = subst (λ (t : List ℕ). WritesInPart t (run_line old.names line) old.written new.written) (sym (append-nil old.held)) p;
 }
 
 -- the first of some lines were added, and these are left

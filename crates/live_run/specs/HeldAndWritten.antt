@@ -1,6 +1,6 @@
 -- What is written of some lines of a run, and what is held back (rule of this project).
-use Rattle.std.specs.Prelude.{◌≡◌, ℕ, ◌+◌, ◌≤◌, Bool, Option, Some, None, Result, Ok, Err, List, ◌++◌, length, []}
-use Rattle.cluster_io.specs.Streams.{Adds, AddsPrefix, Bears}
+use Rattle.std.specs.Prelude.{◌≡◌, ◌⊎◌, ℕ, ◌+◌, ◌≤◌, Bool, Option, Some, None, Result, Ok, Err, List, ◌++◌, length, []}
+use Rattle.cluster_io.specs.Streams.{Adds, AddsPrefix, Bears, OffersWhole}
 use Rattle.cluster_io.specs.declared.sink.WriteFault.{WriteFault}
 use Rattle.cluster_types.specs.declared.cluster.Cluster.{Cluster}
 use Rattle.cluster_types.specs.declared.run.RunLine.{RunLine}
@@ -12,7 +12,7 @@ abbrev pub most_held : ℕ
 most_held = 65536
 
 -- the sink failed as a last text was added behind a text: a front of both was written, and of the text at most 65,536 bytes are missing
-pub record BreaksOff (text last : List ℕ) (before after : Option (List ℕ)) : Type 0 where
+pub record WritesInPart (text last : List ℕ) (before after : Option (List ℕ)) : Type 0 where
   pub front : AddsPrefix (text ++ last) before after
   pub few_missing : length text ≤ front.count + most_held
 
@@ -34,7 +34,23 @@ pub record GoesOut (text held held_now : List ℕ) (before after : Option (List 
 -- what was held back and a text behind it were written, or the sink failed
 abbrev pub PutsLast : Result (Unit {0}) WriteFault → List ℕ → List ℕ → Option (List ℕ) → Option (List ℕ) → Type 0
 PutsLast (Ok done) text held before after = Adds before (held ++ text) after
-PutsLast (Err fault) text held before after = BreaksOff held text before after
+PutsLast (Err fault) text held before after = WritesInPart held text before after
+
+-- what was held back was offered to the sink as one piece, and then only what was left of it; where nothing was held back, no piece was offered
+pub record OffersHeld (held : List ℕ) (before after : Option (List (List ℕ))) : Type 0 where
+  pub whole : OffersWhole held before after
+  pub nothing : held ≡ [] → after ≡ before
+
+-- what was held back and a text behind it were offered one after the other, each as one piece
+pub record OffersInTurn (held text : List ℕ) (before after : Option (List (List ℕ))) : Type 0 where
+  pub between : Option (List (List ℕ))
+  pub first : OffersHeld held before between
+  pub last : OffersHeld text between after
+
+-- what was held back and a last text were offered as one piece or in turn, or the sink failed before the last text
+abbrev pub OffersLast : Result (Unit {0}) WriteFault → List ℕ → List ℕ → Option (List (List ℕ)) → Option (List (List ℕ)) → Type 0
+OffersLast (Ok done) text held before after = OffersHeld (held ++ text) before after ⊎ OffersInTurn held text before after
+OffersLast (Err fault) text held before after = (OffersHeld (held ++ text) before after ⊎ OffersInTurn held text before after) ⊎ OffersHeld held before after
 
 -- what lines that were written have left of a sink's count of faults, by whether the last of them failed, and of its loan
 pub record HasPut (exact : Bool) (failed : Type 0) (faults faults_now loan loan_now : ℕ) : Type 0 where
@@ -65,4 +81,4 @@ module _ (exact : Bool) (old new : WriterView) (lines : List RunLine) where
   pub record HasFailedBehind (at : Option RunLine) : Type 0 where
     pub names_stay : new.names ≡ old.names
     pub put : HasPut exact (Unit {0}) old.faults new.faults old.loan new.loan
-    pub text : BreaksOff (old.held ++ run_lines_text old.names lines) (last_text old.names at) old.written new.written
+    pub text : WritesInPart (old.held ++ run_lines_text old.names lines) (last_text old.names at) old.written new.written

@@ -8,3 +8,4 @@ pub mod ReadSteps
 pub mod RunEnds
 pub mod LineFits
 pub mod WriteResults
+pub mod SourceFollowedLaws

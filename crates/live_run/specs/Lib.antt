@@ -6,7 +6,6 @@ pub mod AnswersToCome
 pub mod ResultReaders
 pub mod Courses
 pub mod SourceFollowed
-pub mod SourceFollowedLaws
 pub mod LineSources
 pub mod AnswersAtHand
 pub mod LineCauses

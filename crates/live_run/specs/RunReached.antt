@@ -21,7 +21,7 @@ use Rattle.live_run.specs.declared.line_stop.LineStop.TheVariants as why
 use Rattle.input_reading.specs.declared.results.result_lines.ResultLine.{ResultLine}
 use Rattle.run_safety.specs.TwoRuns.{EndsBetween, IsFront}
 use Rattle.live_run.specs.LineCauses.{line_refusal_text}
-use Rattle.live_run.specs.HeldAndWritten.{BreaksOff}
+use Rattle.live_run.specs.HeldAndWritten.{WritesInPart}
 use Rattle.live_run.specs.Ends.{AsksForMore, EndGets, CutRunGives, run_lines_text}
 use Rattle.live_run.specs.declared.live_end.LiveEnd.{LiveEnd}
 use Rattle.live_run.specs.declared.live_end.LiveEnd.TheVariants as end
@@ -111,7 +111,7 @@ module _ (c : Cluster) (journal : Journal) (reading : Reading) (left_then : List
     pub run : Runs c journal.promotions (is_none results.stop) (due 1 journal.events) (Some (answers_to_come results)) printed at
         (Some (map (λ (r : ResultLine). r.answer) behind))
     pub waits : IsAsking c journal.promotions (is_none results.stop) at ⊎ IsBetween c journal.promotions (is_none results.stop) at
-    pub one_more : (asked.stop ≡ None) ⊎ (asked ≡ results)
+    pub one_more : (asked.stop ≡ None) ⊎ ((asked ≡ results) × (results.stop ≡ Some why.TooLarge))
 
   -- one call of the writer
   pub data WriterCall : Type 0 where
@@ -164,7 +164,7 @@ module _ (c : Cluster) (journal : Journal) (reading : Reading) (left_then : List
 
     -- the source failed, behind some bytes that it gave: of the bytes that were held, and these, some lines were taken whole. The others give no answer yet,
     -- and the run went over these lines
-    pub record IsBrokenOff : Type 0 where
+    pub record HasReadFailed : Type 0 where
       pub bytes : List ℕ
       pub taken : TakesBytes (Some left_then) bytes left_now
       pub whole : HasWholeLinesTaken (reading.held ++ left_then) left_now
@@ -176,7 +176,7 @@ module _ (c : Cluster) (journal : Journal) (reading : Reading) (left_then : List
     pub record HasSinkFailed : Type 0 where
       pub call : WriterCall
       pub read : WasAskedFor (asked_by_call call) ⊎ WasAllAskedFor (asked_by_call call)
-      pub cut : BreaksOff (run_lines_text c (lines_before_call call)) (text_of_call call) written_then written_now
+      pub cut : WritesInPart (run_lines_text c (lines_before_call call)) (text_of_call call) written_then written_now
       pub begins : (how : LiveEnd) (whole : List ℕ) → EndGets c journal results how whole → AddsPrefix whole written_then written_now
 
     -- memory ran out between two transitions: the lines up to there were written, none or ones that end with `complete K`, `aborted K` or an answer that came
@@ -193,7 +193,7 @@ module _ (c : Cluster) (journal : Journal) (reading : Reading) (left_then : List
 
     -- what each end says
     abbrev pub Reaches : LiveEnd → Type 0
-    Reaches end.ReadFault = IsBrokenOff
+    Reaches end.ReadFault = HasReadFailed
     Reaches end.WriteFault = HasSinkFailed
     Reaches end.NoMemory = HasNoMemory
     Reaches how = HasWritten how

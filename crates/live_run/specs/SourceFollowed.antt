@@ -1,4 +1,4 @@
--- How a source of answers that are read from lines has come from another: which logical lines it has read since, how they were answered, and how far it has
+-- How a source of answers that are read from lines has come from itself at an earlier moment: which logical lines it has read since, how they were answered, and how far it has
 -- read its source of bytes (rule of this project).
 use Rattle.std.specs.Prelude.{◌≡◌, ◌⊎◌, ℕ, ◌+◌, ◌<◌, Bool, true, false, if◌then◌else◌, Option, Some, List, [], ◌∷◌, ◌++◌, length, is_some, option_map, sum_by, IfSome}
 use Rattle.std.specs.List.{concat, flat_map}
@@ -69,7 +69,7 @@ pub record HasRead (c : Cluster) (old new : LineReaderAt) (before after : Option
   pub room : length (bytes_of lines) + new.reading.room ≡ old.reading.room
   pub same_size : new.reading.longest ≡ old.reading.longest
 
--- nothing was taken; or behind these lines only what came with the end of the last of them: fewer than 4,096 bytes
+-- nothing was taken; or behind these lines fewer than 4,096 bytes, those that came with the end of the last of them
 abbrev pub AreNear : LineReaderAt → List (List (List ℕ)) → List ℕ → Type 0
 AreNear old lines bytes = (bytes ≡ []) ⊎ (length (old.reading.held ++ bytes) < length (bytes_of lines) + 4096)
 

@@ -12,7 +12,7 @@ impl<'c, 's, S: Source> Outcomes for LineOutcomes<'c, 's, S> {
     ghost use Rattle.live_run.specs.declared.line_stop.LineStop.TheVariants.{ReadFault};
     ghost use Rattle.live_run.specs.SourceFollowed.{HasFollowed, HasSaid};
     ghost use Rattle.live_run.specs.LineSources.{outcomes_source, state_of, outcomes_view};
-    ghost use Rattle.live_run.specs.SourceFollowedLaws.{followed_itself, followed_said, followed_then, said_behind};
+    ghost use Rattle.live_run.specs.Inner.SourceFollowedLaws.{followed_itself, followed_said, followed_then, said_behind};
 
     ghost rest = { λ o. rest_of (told_by (state_of o) (S.left (outcomes_source o))) };
 

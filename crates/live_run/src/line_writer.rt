@@ -7,8 +7,8 @@ ghost use Rattle.cluster_types.specs.Texts as texts;
 ghost use Rattle.cluster_types.specs.Valid.{IsValid, KeepsLimits};
 ghost use Rattle.graph_exec.specs.WatcherLines.{ReasonsHaveNames, plan_lines};
 ghost use Rattle.live_run.specs.LineCauses.{line_refusal_text};
-ghost use Rattle.live_run.specs.HeldAndWritten.{IsSameSink, Puts, PutsLast, most_held};
-ghost use Rattle.live_run.specs.Inner.WriteResults.{PutsBehind, PutsLine, PutsLines};
+ghost use Rattle.live_run.specs.HeldAndWritten.{IsSameSink, OffersHeld, OffersLast, Puts, PutsLast, most_held};
+ghost use Rattle.live_run.specs.Inner.WriteResults.{OffersBehind, PutsBehind, PutsLine, PutsLines};
 ghost use Rattle.trace_text.specs.RunLines.{HasName, HasShortNames, lent_line};
 
 use crate::held_text::HeldText;
@@ -36,6 +36,7 @@ pub struct LineWriter<'c, 's, W: Sink> {
 /// All that is held back leaves, by one `write_text`.
 fn flush<W: Sink>(sink: &mut W, held: &mut HeldText) -> Result<(), WriteFault>
     ensures text { Puts result held.old (W.written sink.old) (W.written sink.new) }
+    ensures whole { OffersHeld held.old (W.offered sink.old) (W.offered sink.new) }
     ensures few { length held.old ≤ most_held }
     ensures held { held.new ≡ [] }
     ensures bears { Bears W.counts_only_failures (IsErr result) (W.faults sink.old) (W.faults sink.new) }
@@ -49,6 +50,7 @@ fn flush<W: Sink>(sink: &mut W, held: &mut HeldText) -> Result<(), WriteFault>
 fn push<W: Sink>(sink: &mut W, held: &mut HeldText, line: &[u8]) -> Result<(), WriteFault>
     requires { length line.now ≤ 1024 }
     ensures text { PutsBehind result line.now held.old held.new (W.written sink.old) (W.written sink.new) }
+    ensures whole { OffersBehind result line.now held.old held.new (W.offered sink.old) (W.offered sink.new) }
     ensures none_held { IsErr result → held.new ≡ [] }
     ensures bears { Bears W.counts_only_failures (IsErr result) (W.faults sink.old) (W.faults sink.new) }
 {
@@ -92,6 +94,8 @@ impl<'c, 's, W: Sink> LineWriter<'c, 's, W> {
         requires { HasName line.now }
         ensures cluster { writer_cluster self.new ≡ writer_cluster self.old }
         ensures line { PutsLine W.counts_only_failures (writer_view W.written W.faults self.old) (writer_view W.written W.faults self.new) result (lent_line line.now) }
+        ensures whole { OffersBehind result (texts.run_line (writer_cluster self.old) (lent_line line.now)) (writer_held self.old) (writer_held self.new)
+            (W.offered (sink_of self.old)) (W.offered (sink_of self.new)) }
         ensures bears { Bears W.counts_only_failures (IsErr result) (W.faults (sink_of self.old)) (W.faults (sink_of self.new)) }
     {
         write_line(self.cluster, line, &mut self.buf);
@@ -118,6 +122,7 @@ impl<'c, 's, W: Sink> LineWriter<'c, 's, W> {
     pub fn finish(&mut self) -> Result<(), WriteFault>
         ensures cluster { writer_cluster self.new ≡ writer_cluster self.old }
         ensures text { Puts result (writer_held self.old) (W.written (sink_of self.old)) (W.written (sink_of self.new)) }
+        ensures whole { OffersHeld (writer_held self.old) (W.offered (sink_of self.old)) (W.offered (sink_of self.new)) }
         ensures few { length (writer_held self.old) ≤ most_held }
         ensures held { writer_held self.new ≡ [] }
         ensures bears { Bears W.counts_only_failures (IsErr result) (W.faults (sink_of self.old)) (W.faults (sink_of self.new)) }
@@ -131,6 +136,8 @@ impl<'c, 's, W: Sink> LineWriter<'c, 's, W> {
     pub fn unexpected(&mut self, line: u32) -> Result<(), WriteFault>
         ensures text { PutsLast result (texts.run_line (writer_cluster self.old) (told.Unexpected line)) (writer_held self.old)
             (W.written (sink_of self.old)) (W.written (sink_of self.new)) }
+        ensures whole { OffersLast result (texts.run_line (writer_cluster self.old) (told.Unexpected line)) (writer_held self.old)
+            (W.offered (sink_of self.old)) (W.offered (sink_of self.new)) }
         ensures held { writer_held self.new ≡ [] }
         ensures bears { Bears W.counts_only_failures (IsErr result) (W.faults (sink_of self.old)) (W.faults (sink_of self.new)) }
         ensures same_sink { IsSameSink (writer_loan self.old) (writer_loan self.new) }
@@ -143,6 +150,7 @@ impl<'c, 's, W: Sink> LineWriter<'c, 's, W> {
     /// Writes `refused LINE CAUSE` behind all that is held back: the last line of a run that asks for a line which isn't read.
     pub fn refused(&mut self, line: u32, cause: LineCause) -> Result<(), WriteFault>
         ensures text { PutsLast result (line_refusal_text line cause) (writer_held self.old) (W.written (sink_of self.old)) (W.written (sink_of self.new)) }
+        ensures whole { OffersLast result (line_refusal_text line cause) (writer_held self.old) (W.offered (sink_of self.old)) (W.offered (sink_of self.new)) }
         ensures held { writer_held self.new ≡ [] }
         ensures bears { Bears W.counts_only_failures (IsErr result) (W.faults (sink_of self.old)) (W.faults (sink_of self.new)) }
         ensures same_sink { IsSameSink (writer_loan self.old) (writer_loan self.new) }

@@ -50,14 +50,10 @@ fn end_of_lines<S: Source, W: Sink>(
     ensures same_sink { IsSameSink (writer_loan writer.old) (writer_loan writer.new) }
 {
     match outcomes.stop() {
-        Some(LineStop::Refused { line, cause }) => match writer.refused(line, cause) {
-            Ok(()) => LiveEnd::Refused,
-            Err(_) => LiveEnd::WriteFault,
-        },
-        Some(LineStop::TooLarge) => match writer.finish() {
-            Ok(()) => LiveEnd::TooLarge,
-            Err(_) => LiveEnd::WriteFault,
-        },
+        Some(LineStop::Refused { line, cause }) => {
+            end_as(LiveEnd::Refused, writer.refused(line, cause))
+        }
+        Some(LineStop::TooLarge) => end_as(LiveEnd::TooLarge, writer.finish()),
         Some(LineStop::ReadFault) | None => LiveEnd::ReadFault,
     }
 }

@@ -23,7 +23,7 @@ impl<'c, 's, W: Sink> Watcher for LineWriter<'c, 's, W> {
     ghost use Rattle.std.specs.Prelude.{◌≡◌, []};
     ghost use Rattle.live_run.specs.LineWriters.{writer_held, writer_cluster, sink_of, writer_view};
     ghost use Rattle.live_run.specs.HeldAndWritten.{HasFailedBehind, HasWrittenLines};
-    ghost use Rattle.live_run.specs.SourceFollowedLaws.{lines_itself, lines_later, lines_then};
+    ghost use Rattle.live_run.specs.Inner.SourceFollowedLaws.{lines_itself, lines_later, lines_then};
 
     ghost is_of = { λ w c. writer_cluster w ≡ c };
 

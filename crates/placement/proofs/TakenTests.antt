@@ -14,6 +14,15 @@ module _ (nodes : ℕ) (first : Targets) (rule : Dependency) (anywhere : Bool)
   known_anywhere : rule.local ≡ false → anywhere ≡ is_anywhere nodes first rule.primary rule.primary_role
   known_anywhere e = known ∙ ap (λ (b : Bool). not b && is_anywhere nodes first rule.primary rule.primary_role) e
 
+  -- at first
+  pub takes_first : takes nodes first rule n ≡ (holds_role first rule.dependent rule.dependent_role n && not (has_primary_where first rule anywhere n))
+  takes_first = ap (λ (b : Bool). holds_role first rule.dependent rule.dependent_role n && not b) (go rule.local refl)
+    where
+      go : (b : Bool) → rule.local ≡ b → (if b then holds_role first rule.primary rule.primary_role n else is_anywhere nodes first rule.primary rule.primary_role)
+          ≡ (if b then holds_role first rule.primary rule.primary_role n else anywhere)
+      go true e = refl
+      go false e = sym (known_anywhere e)
+
   -- and later
   pub takes_now : (now : Targets) → ((r : ℕ) (given : Role) (m : ℕ) → holds_role now r given m ≡ true → holds_role first r given m ≡ true)
       → (holds_role now rule.dependent rule.dependent_role n && not (has_primary_where now rule anywhere n)) ≡ true → takes nodes now rule n ≡ true

@@ -17,7 +17,6 @@ use Rattle.cluster_types.specs.declared.rules.Order.{Order}
 use Rattle.cluster_types.specs.NeededActions.{can_cycle, has_disturbing}
 use Rattle.cluster_types.specs.Precedence.{role_given}
 use Rattle.cluster_types.specs.Tables.{Targets, holds_role, is_in_scope, target_holds}
-use Rattle.cluster_types.proofs.TableCells.{by_target}
 use Rattle.planner.specs.Inner.ByNeeds as by_needs
 use Rattle.planner.specs.CycledCells.{MarkedCells, is_disturbed, is_marked_by, with_order}
 use Rattle.planner.specs.Inner.Levels.{AreNeeds, marks_in, steps_by}
@@ -72,8 +71,6 @@ module _ (c : Cluster) (es : List Event) (targets : Targets) (needs : List CellN
       let within : nat_lt n (length c.nodes) ≡ true = lt-ltb n (length c.nodes) lt in
       ap (λ (need : CellNeed). need.can_cycle && target_holds need.target (role_given o.then_op)
       && (if o.local then slice_index_or flags n false else list_any (λ b. b) flags)) (are o.then_leaf n ordered.later lt)
-      ∙ ap (λ b. can_cycle c es targets o.then_leaf n && b
-      && (if o.local then slice_index_or flags n false else list_any (λ b. b) flags)) (by_target targets o.then_leaf n (role_given o.then_op))
       ∙ ap (λ b. can_cycle c es targets o.then_leaf n && holds_role targets o.then_leaf (role_given o.then_op) n && b) (scoped n o.local lt)
       ∙ ap (λ b. b && can_cycle c es targets o.then_leaf n && holds_role targets o.then_leaf (role_given o.then_op) n
       && list_any (λ m. is_in_scope o n m && is_disturbed c es targets marks o m) (range_with_len 0 (length c.nodes))) (sym within)

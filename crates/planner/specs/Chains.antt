@@ -33,7 +33,7 @@ module _ (actions : List Action) where
       ⊎ InChain (changes_at o.then_leaf o.local m) (changes_at o.first o.local m) places x y
 
 module _ (actions : List Action) (is_earlier : Action → Action → Bool) where
-  -- of two positions the one has the earlier action
+  -- of two actions, if both are there, the one is the earlier; and of those at two positions
   abbrev pub earlier_of : Option Action → Option Action → Bool
   earlier_of (Some a) (Some b) = is_earlier a b
   earlier_of _ _ = false

@@ -1,4 +1,5 @@
--- Which cells are stopped and started again, found by one pass over the orders (follows from the definition of the cells that are).
+-- Which cells are stopped and started again, found by one pass over the orders, as the code makes it. Which cells these are says `Cycled`, and laws say that
+-- the pass finds just them (`marks_of_orders_are_the_cycled`, `falling_orders_find_the_cycled`).
 use Rattle.std.specs.Prelude.{◌≡◌, ◌≢◌, ◌≤◌, ℕ, nat_lt, ◌==◌, ◌&&◌, ◌||◌, Bool, true, false, List, [], ◌∷◌, length, Contains, AllPairs}
 use Rattle.std.specs.List.{list_any, range_with_len}
 use Rattle.cluster_types.specs.declared.cluster.Cluster.{Cluster}
@@ -32,7 +33,7 @@ module _ (c : Cluster) (es : List Event) (targets : Targets) where
       has_disturbing o.first_op (steps_at c es targets o.first m false)
       || marks o.first m && has_disturbing o.first_op (steps_at c es targets o.first m true)
 
-  -- the then of the order is there to stay on the node
+  -- the then of the order can be cycled on the node, where it is in its role in the end
   abbrev pub can_be_marked : Order → ℕ → Bool
   can_be_marked o n =
       nat_lt n (length c.nodes) && can_cycle c es targets o.then_leaf n && holds_role targets o.then_leaf (role_given o.then_op) n
@@ -56,7 +57,7 @@ AreCycling c os =
     ((o : Order) → Contains c.orders o → is_cycling o ≡ true → Contains os o)
     × ((o : Order) → Contains os o → Contains c.orders o × (is_cycling o ≡ true))
 
--- no order of the list has as its then the first of one that stands before it
+-- no order of the list has as its then its own first, or that of one which stands before it
 abbrev pub NoneComesBack : List Order → Type 0
 NoneComesBack [] = Unit {0}
 NoneComesBack (o ∷ os) = ((p : Order) → Contains (o ∷ os) p → p.then_leaf ≢ o.first) × NoneComesBack os

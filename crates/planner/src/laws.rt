@@ -11,7 +11,7 @@ ghost use Rattle.cluster_types.specs.Valid.{IsValid};
 ghost use Rattle.planner.specs.PlanForJournal.{HasPlan};
 
 /// Of a valid cluster, a journal and a list of promotion scores there is one plan: some, and no more.
-pub fn there_is_one_plan()
+pub fn a_plan_exists_and_is_unique()
     ensures some { (c : ClusterOf) (events : List EventOf) (promotions : List PromotionOf) → IsValid c → HasPlan c events promotions }
     ensures placed { (c : ClusterOf) (events : List EventOf) (promotions : List PromotionOf) (one other : PlacedOf) (xs ys : List ActionOf)
         → IsPlan c events promotions one xs → IsPlan c events promotions other ys → one ≡ other }

@@ -32,7 +32,7 @@ pub use edge_laws::{
     chains_say_what_is_serialized, edges_lead_to_higher_numbers, joins_say_what_must_precede,
     needed_actions_are_within,
 };
-pub use laws::there_is_one_plan;
+pub use laws::a_plan_exists_and_is_unique;
 pub use losing::survive;
 pub use needed_actions::building::actions;
 pub use number_laws::{needed_actions_have_places_of_their_own, plans_have_few_edges};

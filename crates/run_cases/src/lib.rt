@@ -3,7 +3,9 @@
 //! They stand in a crate of their own, since the tests of a crate are proved together with all of its code once more.
 #![tactic(auto)]
 
-// Small graphs, what happens, in short, and a watcher that is told.
+// Small graphs, what happens, in short, a watcher that is told, and a sink that keeps what it is offered.
+#[cfg(test)]
+mod recorder;
 #[cfg(test)]
 mod shown_events;
 #[cfg(test)]
@@ -24,6 +26,8 @@ mod waiting_orders;
 mod begins;
 #[cfg(test)]
 mod out_of_memory;
+#[cfg(test)]
+mod questions;
 #[cfg(test)]
 mod runs;
 #[cfg(test)]

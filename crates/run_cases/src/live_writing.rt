@@ -4,8 +4,9 @@ ghost use Rattle.std.specs.Prelude.{◌≡◌, []};
 ghost use Rattle.cluster_types.specs.Valid.{IsValid};
 ghost use Rattle.graph_exec.specs.WatcherLines.{ReasonsHaveNames};
 
+use crate::recorder::Recorder;
 use crate::starts::{TWO, cluster_of};
-use cluster_io::MemorySink;
+use cluster_io::{MemorySink, Sink};
 use cluster_types::{Action, Answer, Cluster, Placed, Table, Target};
 use graph_exec::{Heard, Watcher};
 use listed::Listed;
@@ -46,9 +47,9 @@ fn tell<V: Watcher>(watcher: &mut V, placed: &Placed) -> [Heard; 5]
 }
 
 /// A writer is told them.
-fn tell_writer<'s>(
+fn tell_writer<'s, W: Sink>(
     cluster: &Cluster,
-    sink: &'s mut MemorySink,
+    sink: &'s mut W,
     held: &'s mut HeldText,
     placed: &Placed,
 ) -> [Heard; 5]
@@ -105,6 +106,28 @@ fn lines_leave_together_when_the_source_is_asked(rt: HostRuntime) {
     let placed = on_second(&rt, rt.alloc());
     for row in ROWS {
         check_row(&rt, rt.alloc(), &cluster, &placed, row);
+    }
+}
+
+/// The lines that are told, and what is left of them behind 40 bytes.
+const LINES: &[u8] =
+    b"transition 1\ntarget vip n2 started\nbegin 1 probe vip n1\nend 1 7\ncomplete 1\n";
+
+const LEFT: &[u8] = b" 1 probe vip n1\nend 1 7\ncomplete 1\n";
+
+/// How many bytes a write takes, and the pieces that are offered.
+const OFFERED: &[(usize, &[&[u8]])] = &[(1000, &[LINES]), (40, &[LINES, LEFT])];
+
+#[test]
+fn lines_leave_as_one_piece(rt: HostRuntime) {
+    let alloc = rt.alloc();
+    let cluster = cluster_of(&rt, alloc, TWO);
+    let placed = on_second(&rt, alloc);
+    for (step, pieces) in OFFERED {
+        let mut sink = Recorder::new(alloc, *step);
+        let mut held = HeldText::new(alloc).expect(&rt, "memory");
+        let said = tell_writer(&cluster, &mut sink, &mut held, &placed);
+        assert!(&rt; said == [GO; 5] && sink.has(pieces));
     }
 }
 

@@ -9,7 +9,7 @@ use std::alloc::Global;
 use std::process::Abort;
 
 /// The resource runs on the second node, and stays there while it can.
-const RUNNING: &str =
+pub(crate) const RUNNING: &str =
     "node n1\nnode n2\nprimitive vip IPaddr2\nrsc_defaults resource-stickiness=100\n%status\nnow 1000\nquorum yes\n\
     node n1 online\nnode n2 online\nop n2 vip start 0 0 900\nop n1 vip monitor 0 7 900\n";
 

@@ -5,7 +5,7 @@ use Rattle.std.proofs.lemmas.Bool.{both_ways, or_left, or_right, true_from_ne_fa
 use Rattle.lemmas.proofs.Searches.{passes_by}
 use Rattle.lemmas.proofs.Booleans.{number_itself}
 use Rattle.cluster_types.specs.declared.journal.Action.{Action}
-use Rattle.cluster_types.specs.declared.journal.Action.TheVariants.{Fence, Probe, Operation, MigrateTo, MigrateFrom}
+use Rattle.cluster_types.specs.declared.journal.Action.TheVariants.{Fence, Probe, Operation}
 use Rattle.cluster_types.specs.declared.journal.Answer.{Answer}
 use Rattle.cluster_types.specs.declared.journal.Event.{Event}
 use Rattle.cluster_types.specs.declared.leaf.Op.TheVariants as op
@@ -23,6 +23,7 @@ use Rattle.cluster_types.specs.Safety.{StaysApart, NoForbiddenNeighbour, may_hav
 use Rattle.cluster_types.specs.Steps.{Transition, Begins, Goes, journal}
 use Rattle.cluster_types.specs.Tables.{Targets, holds_role, is_promoted_target}
 use Rattle.cluster_types.specs.Valid.{IsValidColocation, FitsRole}
+use Rattle.cluster_types.proofs.Operations.{role_gives}
 use Rattle.plan_laws.proofs.CellSteps.{is_known}
 use Rattle.run_safety.proofs.Begins.{each_begin}
 use Rattle.run_safety.proofs.Calm.{Calm}
@@ -34,20 +35,6 @@ use Rattle.run_safety.proofs.Needing.{Done, succeeded}
 use Rattle.run_safety.proofs.Neighbours.{holds_not}
 use Rattle.run_safety.proofs.Placing.{IsGiven}
 use Rattle.run_safety.proofs.Truths.{own_cell}
-
--- what gives a role gives something
-role_gives : (held : Role) (a : Action) (at : LeafOnNode) → gives_role held a ≡ Some at → gives_any a ≡ Some at
-role_gives role.Started (Operation op.Start r n i h) at e = e
-role_gives role.Started (MigrateTo r n m) at e = e
-role_gives role.Started (Operation op.Promote r n i h) at e = cc
-role_gives role.Started (Operation op.Stop r n i h) at e = e
-role_gives role.Started (Operation op.Demote r n i h) at e = e
-role_gives role.Started (Operation op.Monitor r n i h) at e = e
-role_gives role.Started (Fence n) at e = e
-role_gives role.Started (Probe r n) at e = e
-role_gives role.Started (MigrateFrom r n m) at e = e
-role_gives role.Promoted (Operation op.Promote r n i h) at e = e
-role_gives role.Promoted _ at e = cc
 
 module _ (t : Transition) (targets : Targets) (carries : Carries t targets) (sound : IsSound t targets) (orderly : Orderly t.planned_at)
     (valid : (col : Colocation) → Contains t.cluster.colocations col → IsValidColocation t.cluster col) where

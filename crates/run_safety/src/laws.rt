@@ -12,13 +12,13 @@ ghost use Rattle.cluster_types.specs.Runs.{RunStanding, RunsOn, Runs};
 ghost use Rattle.run_safety.specs.TwoRuns.{AreAnswersTold, AreOnOneWay, IsPartOfRun};
 
 /// Where the answers to come are told, a transition goes on in one way.
-pub fn steps_are_determined()
+pub fn steps_are_unique()
     ensures { (t : Transition) (whole : Bool) (since events others : List EventOf) (rest left other : Option (List AnswerOf))
         → AreAnswersTold rest → StepsOn t whole since rest events left → StepsOn t whole since rest others other → (events ≡ others) × (left ≡ other) }
 {}
 
 /// Where moreover a journal has one plan, a run goes on in one way.
-pub fn runs_are_determined()
+pub fn continuations_of_runs_are_unique()
     ensures { (c : ClusterOf) (promotions : List PromotionOf) (whole : Bool) (at next after : RunStanding) (lines others : List LineOf) (rest left other : Option (List AnswerOf))
         → AreAnswersTold rest → RunsOn c promotions whole at rest lines next left → RunsOn c promotions whole at rest others after other
         → (lines ≡ others) × (next ≡ after) × (left ≡ other) }
@@ -32,7 +32,7 @@ pub fn one_of_two_runs_goes_on()
 {}
 
 /// A transition ends in one way.
-pub fn transitions_end_in_one_way()
+pub fn ends_of_transitions_are_unique()
     ensures { (t : Transition) (whole : Bool) (since events others : List EventOf) (rest left right : Option (List AnswerOf))
         → AreAnswersTold rest → Goes t whole since rest events left → Goes t whole since rest others right → HasEnded t events → HasEnded t others → (events ≡ others) × (left ≡ right) }
 {}

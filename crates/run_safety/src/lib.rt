@@ -37,8 +37,8 @@ pub use kept_lines::{
     runs_can_be_kept,
 };
 pub use laws::{
-    one_of_two_runs_goes_on, runs_are_determined, steps_are_determined,
-    transitions_are_parts_of_runs, transitions_end_in_one_way,
+    continuations_of_runs_are_unique, ends_of_transitions_are_unique, one_of_two_runs_goes_on,
+    steps_are_unique, transitions_are_parts_of_runs,
 };
 pub use one_plan::plans_are_unique;
 pub use parts::{

@@ -32,6 +32,7 @@ pub mod TraceRead
 pub mod TraceExamples
 pub mod HeadAlone
 pub mod BeforeResults
+pub mod WholeLines
 pub mod FrontRead
 pub mod ReplayedAgain
 pub mod ReplayAgain

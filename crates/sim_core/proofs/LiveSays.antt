@@ -68,7 +68,7 @@ module _ (input : List ℕ) (head : Head) (reading : Reading) (from left before 
   reached end.Unexpected r at_end = record { text = r.text; due = text_of_run end.Unexpected r.text r.gets; added = r.added }
   reached end.Refused r at_end = record { text = r.text; due = inr (text_of_run end.Refused r.text r.gets); added = r.added }
   reached end.TooLarge r at_end = record { text = r.text; due = inr (text_of_run end.TooLarge r.text r.gets); added = r.added }
-  reached end.ReadFault r at_end = behind_head (behind_the_head run.IsBrokenOff r)
+  reached end.ReadFault r at_end = behind_head (behind_the_head run.HasReadFailed r)
   reached end.WriteFault r at_end = of_run (behind_the_head run.HasSinkFailed r)
   reached end.NoMemory r at_end = between_two (behind_the_head run.HasNoMemory r)
 

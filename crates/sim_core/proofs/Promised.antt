@@ -24,7 +24,7 @@ use Rattle.live_run.specs.Courses.{answers_to_come}
 use Rattle.live_run.specs.declared.live_end.LiveEnd.{LiveEnd}
 use Rattle.live_run.specs.declared.live_end.LiveEnd.TheVariants as end
 use Rattle.live_run.specs.Ends.{EndGets, run_lines_text}
-use Rattle.live_run.specs.RunReached.{HasNoMemory, IsBrokenOff, HasSinkFailed, WriterCall, of_held_back, in_run, of_unexpected, of_refusal, at_first_result, lines_before_call, text_of_call, results_behind}
+use Rattle.live_run.specs.RunReached.{HasNoMemory, HasReadFailed, HasSinkFailed, WriterCall, of_held_back, in_run, of_unexpected, of_refusal, at_first_result, lines_before_call, text_of_call, results_behind}
 use Rattle.plan_laws.proofs.LawfulTable.{lawful}
 use Rattle.plan_laws.proofs.OnePlan.{one_list, one_placed}
 use Rattle.planner.proofs.SomePlan.{actions, goals, is_plan}
@@ -130,7 +130,7 @@ module _ (input : List ℕ) where
           some_end head.cluster head.journal all safe_now.valid
           (coming_no_fault head.cluster lines.reading.longest lines.at lines.reading.room (raw_lines (lines.reading.held ++ unread)))
 
-      broken_off : IsBrokenOff head.cluster head.journal reading unread left before after → HasWrittenFront head all [] before after
+      broken_off : HasReadFailed head.cluster head.journal reading unread left before after → HasWrittenFront head all [] before after
       broken_off b = record {
         lines = b.ran.printed;
         at = b.ran.run.last;

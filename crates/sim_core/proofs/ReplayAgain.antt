@@ -33,6 +33,7 @@ use Rattle.sim_core.proofs.OwnAnswers.{whole_is_lawful}
 use Rattle.sim_core.proofs.InputAgain.{h, head_read as head_rows, in_place, is_input, same_ok, same_row, same_rows}
 use Rattle.sim_core.proofs.InputSteps.{HasSections, has_sections}
 use Rattle.sim_core.proofs.TraceSections.{misplaced_parts}
+use Rattle.sim_core.proofs.WholeLines.{whole_before}
 use Rattle.sim_core.proofs.TraceRead.{RunAnew, results_mark, run_anew, trace-is, trace_mark}
 
 -- the line that begins a trace has no fault
@@ -132,7 +133,7 @@ module _ (front mark : List ℕ) (head : Head) (whole_lines : AreWholeLines fron
     lawful_text_of = subst (λ (written : List ℕ). IsLawfulTrace (behind_lines front written) lawful_text) (sym w.printed) lawful_trace
 
 -- the text of an input in the place of its results
-module _ (input : List ℕ) (whole : AreWholeLines (before_results input)) (text : List ℕ) (run : IsTextOfRun IsWholeText input text) where
+module _ (input : List ℕ) (whole : before_results input ≡ input → AreWholeLines input) (text : List ℕ) (run : IsTextOfRun IsWholeText input text) where
   abbrev come : Coming
   come = coming_behind input run.bytes run.head run.next run.room
 
@@ -149,7 +150,7 @@ module _ (input : List ℕ) (whole : AreWholeLines (before_results input)) (text
       let none : list_any results_row (rows_from 1 (raw_lines input)) ≡ false = subst (λ (gs : List (List (List ℕ))). list_any results_row (rows_from 1 gs) ≡ false) (sym all) no_row in
       let no_results : HasNoResults input = sym (same_rows (rows_from 1 (raw_lines input))) ∙ none in
       let same : before_results input ≡ input = ap bytes_of (all_before 1 (raw_lines input) none) ∙ text_bytes input in
-      let whole_input : AreWholeLines input = subst AreWholeLines same whole in
+      let whole_input = whole same in
       let bytes : run.bytes ≡ input = first.text_is ∙ (ap bytes_of (sym all) ∙ text_bytes input) in
       let says : lone_head_of input ≡ Ok run.head = subst (λ (bs : List ℕ). lone_head_of bs ≡ Ok run.head) bytes run.begun.says in
       subst (λ (front : List ℕ). IsLawfulTrace (behind_lines front text) lawful_text) (sym same)
@@ -179,6 +180,12 @@ module _ (input : List ℕ) (whole : AreWholeLines (before_results input)) (text
         let cut = cut_at input c.before (c.rest ++ first.more) groups_are in
         (cut_at cut.behind c.rest first.more cut.rest).first
 
+    -- a line stands behind what is before
+    whole_there : (rest : List (List (List ℕ))) → rows_from (1 + count_lines c.before) rest ≡ mark ∷ [] → raw_lines input ≡ c.before ++ (rest ++ first.more)
+        → AreWholeLines (bytes_of c.before)
+    whole_there [] row all = absurd (let wrong : ⊥ = cc in wrong)
+    whole_there (group ∷ rest) row all = whole_before input c.before group (rest ++ first.more) all
+
     mark_words : mark.words ≡ codes "%results" ∷ []
     unfolding lone_head_of
     mark_words =
@@ -198,7 +205,7 @@ module _ (input : List ℕ) (whole : AreWholeLines (before_results input)) (text
     -- where it has some
     in_their_place : IsLawfulTrace (with_trace_section input text) lawful_text
     in_their_place =
-        lawful_text_of (before_results input) mark_text run.head whole begins_results
+        lawful_text_of (before_results input) mark_text run.head (subst AreWholeLines (sym before_is) (whole_there c.rest c.ends_in groups_are)) begins_results
         (subst (λ (bs : List ℕ). lone_head_of bs ≡ Ok run.head) bytes_are run.begun.says) input come read text run.says
 
   pub is_lawful : IsLawfulTrace (with_trace_section input text) lawful_text

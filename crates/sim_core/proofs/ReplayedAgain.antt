@@ -1,25 +1,16 @@
 -- What `replay` writes is read again.
-use Rattle.std.proofs.Common.{◌≡◌, ℕ, true, Some, List, [], ◌∷◌, ◌++◌, is_none, map, append-nil, refl, sym, ap, subst, ◌∙◌, Contains}
-use Rattle.std.proofs.lemmas.List.Concat.{flat_map-append}
+use Rattle.std.proofs.Common.{◌≡◌, ℕ, true, Some, List, ◌∷◌, is_none, map, refl, sym, subst, Contains}
 use Rattle.std.proofs.lemmas.List.Elements.{Contains-append_right}
 use Rattle.lemmas.proofs.Members.{at_head}
-use Rattle.cluster_types.specs.declared.cluster.Cluster.{Cluster}
-use Rattle.cluster_types.specs.declared.run.RunLine.{RunLine}
-use Rattle.cluster_types.specs.declared.run.RunLine.TheVariants as line
-use Rattle.cluster_types.specs.Texts.{run_line}
 use Rattle.input_reading.specs.declared.results.result_lines.ResultLine.{ResultLine}
-use Rattle.live_run.specs.Ends.{IsCutText, IsWholeText, run_lines_text}
+use Rattle.live_run.specs.Ends.{IsCutText, IsWholeText}
 use Rattle.written_runs.proofs.RunsAgain.{cut_again, whole_again}
 use Rattle.sim_core.specs.Replay.{IsTextOfRun, coming_behind}
-use Rattle.sim_core.specs.ReplayedAgain.{IsRunReadAgain}
+use Rattle.sim_core.specs.ReplayedAgain.{IsCutRunReadAgain, IsWholeRunReadAgain}
 use Rattle.sim_core.proofs.FrontRead.{front_fits, front_is_input, front_text}
 
-one_more : (c : Cluster) (lines : List RunLine) (last : RunLine) → run_lines_text c lines ++ run_line c last ≡ run_lines_text c (lines ++ last ∷ [])
-one_more c lines last =
-    ap (λ (bytes : List ℕ). run_lines_text c lines ++ bytes) (sym (append-nil (run_line c last))) ∙ sym (flat_map-append (run_line c) lines (last ∷ []))
-
 module _ (input text : List ℕ) where
-  pub whole_read_again : IsTextOfRun IsWholeText input text → IsRunReadAgain input text
+  pub whole_read_again : IsTextOfRun IsWholeText input text → IsWholeRunReadAgain input text
   whole_read_again run =
       let w = run.says in
       let front = front_text input run.bytes run.next run.room run.begun.is run.head run.begun.says in
@@ -30,10 +21,10 @@ module _ (input text : List ℕ) where
         next = run.next;
         room = run.room;
         begun = run.begun;
-        says = record { lines = w.lines; printed = w.printed; again = whole_again front _ read true w.run.journal_now w.lines w.run.run };
+        says = record { written = w; again = whole_again front _ read true w.run.journal_now w.lines w.run.run };
       }
 
-  pub cut_read_again : IsTextOfRun IsCutText input text → IsRunReadAgain input text
+  pub cut_read_again : IsTextOfRun IsCutText input text → IsCutRunReadAgain input text
   cut_read_again run =
       let w = run.says in
       let come = coming_behind input run.bytes run.head run.next run.room in
@@ -50,8 +41,7 @@ module _ (input text : List ℕ) where
         room = run.room;
         begun = run.begun;
         says = record {
-          lines = w.lines ++ line.Unexpected w.result.line ∷ [];
-          printed = w.printed ∙ one_more run.head.cluster w.lines (line.Unexpected w.result.line);
+          written = w;
           again = cut_again front _ read (is_none come.stop) fits w.result there w.run.journal_now (Some (map (λ (r : ResultLine). r.answer) w.run.behind)) w.lines w.run.run;
         };
       }

@@ -152,7 +152,7 @@ IsStatusOf word status = MayAnswer (takes_memory word) (intake word) (Gets word)
 
 -- a status that comes before anything is written, with a word that reads an input to its end
 abbrev pub IsEarly : Status → Type 0
-IsEarly status = (status ≡ ReadFault) ⊎ (status ≡ TooLarge)
+IsEarly status = (status ≡ ReadFault) ⊎ ((status ≡ TooLarge) ⊎ (status ≡ NoMemory))
 
 -- the words are those of a word that reads an input to its end
 abbrev pub ReadsWhole : Option Command → Type 0

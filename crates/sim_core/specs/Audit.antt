@@ -32,8 +32,8 @@ pub record IsLawfulTrace (input text : List ℕ) : Type 0 where
   pub lawful : IsLawfulRun whole.head.cluster whole.head.journal (said whole.run.lines)
   pub printed : text ≡ lawful_text
 
--- the text names the first line of the run that isn't the due one, and what is due there. Where lines are missing it is the one behind the last line of the
--- input, which counts by its first part
+-- the text names the first line of the run that isn't the due one, and what is due there. Where lines are missing, it has the number behind that of the last
+-- line of the input. A line that goes on counts by its first physical line
 pub record IsUnlawfulTrace (input text : List ℕ) : Type 0 where
   pub whole : Trace
   pub reads : ReadsTrace input whole

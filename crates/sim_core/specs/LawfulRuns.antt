@@ -40,11 +40,11 @@ said lines = map (λ (l : RunTextLine). l.what) lines
 
 -- of the lines of a written run, from a journal on
 module _ (c : Cluster) (journal : Journal) (lines : List RunLine) where
-  -- the whole run of their answers prints these lines
+  -- the whole run of their answers prints these lines, and leaves this journal
   abbrev pub IsWholeRunOfLines : List RunLine → List Event → Type 0
   IsWholeRunOfLines printed left = IsWholeRun c journal.promotions true journal.events (Some (answers_of_lines lines)) printed left
 
-  -- the run of their answers prints these lines, and is cut by an answer that doesn't apply
+  -- the run of their answers prints these lines, leaves this journal, and is cut by an answer that doesn't apply
   abbrev pub IsCutRunOfLines : List RunLine → List Event → Answer → Option (List Answer) → Type 0
   IsCutRunOfLines printed left given behind = IsCutRun c journal.promotions true journal.events (Some (answers_of_lines lines)) printed left given behind
 

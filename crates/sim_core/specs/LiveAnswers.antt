@@ -7,7 +7,7 @@ use Rattle.cluster_types.specs.declared.cluster.Cluster.{Cluster}
 use Rattle.cluster_types.specs.declared.journal.Journal.{Journal}
 use Rattle.live_run.specs.SourceFollowed.{bytes_of}
 use Rattle.live_run.specs.Heads as heads
-use Rattle.live_run.specs.RunReached.{GivesNoAnswer, HasNoMemory, IsBrokenOff, HasSinkFailed, HasWholeLinesTaken}
+use Rattle.live_run.specs.RunReached.{GivesNoAnswer, HasNoMemory, HasReadFailed, HasSinkFailed, HasWholeLinesTaken}
 use Rattle.input_reading.specs.declared.input.cause.InputCause.{InputCause}
 use Rattle.input_reading.specs.declared.input.reading.Head.{Head}
 use Rattle.sim_core.specs.declared.status.Status.{Status}
@@ -58,7 +58,7 @@ module _ (input : List ℕ) (left_now written_then written_now : Option (List �
   -- the source failed, amid the head, where nothing was written, or behind it
   pub data HasReadFault : Type 0 where
     amid_head : IsAmidHead input left_now → written_now ≡ written_then → HasReadFault
-    behind_head : IsBehindHead IsBrokenOff → HasReadFault
+    behind_head : IsBehindHead HasReadFailed → HasReadFault
 
   -- the sink failed
   pub data HasWriteFault : Type 0 where

@@ -33,9 +33,9 @@ pub fn whole_runs_are_lawful()
 {}
 
 /// What `replay` writes of an input with status 0 is lawful in the place of its results, and behind the input where it has none: `audit` writes `lawful` for what
-/// stands before the results, a line `%trace` and that text. What stands before is to be whole lines, so that `%trace` begins one of its own: the last line of an
-/// input without results has its line end. (An input of more than 16 MiB is none to the program: of a run that is so long it says that, with status 7.)
+/// stands before the results, a line `%trace` and that text. An input without results must consist of whole lines, so that `%trace` begins one of its own: its
+/// last line has its line end, and no backslash continues it. (An input of more than 16 MiB is none to the program: of a run that is so long it says that, with status 7.)
 pub fn what_replay_writes_is_lawful()
-    ensures { (input text : List ℕ) → AreWholeLines (before_results input) → IsReplayOutput input Done text
+    ensures { (input text : List ℕ) → (before_results input ≡ input → AreWholeLines input) → IsReplayOutput input Done text
         → IsAuditOutput (with_trace_section input text) Done lawful_text }
 {}

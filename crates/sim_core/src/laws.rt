@@ -20,7 +20,7 @@ ghost use Rattle.sim_core.specs.Commands.{Gets};
 ghost use Rattle.sim_core.specs.GenSummary.{IsSummaryText};
 ghost use Rattle.sim_core.specs.Headline.{IsSafeOutput};
 ghost use Rattle.sim_core.specs.Replay.{IsReplayOutput};
-ghost use Rattle.sim_core.specs.ReplayedAgain.{IsRunReadAgain};
+ghost use Rattle.sim_core.specs.ReplayedAgain.{IsCutRunReadAgain, IsWholeRunReadAgain};
 ghost use Rattle.sim_core.specs.LineByLine.{ComesLineByLine, HasPlainRest, HasRefusedLine, IsRefusedByLine};
 ghost use Rattle.sim_core.specs.SafeTexts.{IsSummaryOfSafeRun, IsTextOfSafeWorld};
 ghost use Rattle.sim_core.specs.World.{IsWorldOf};
@@ -40,18 +40,18 @@ pub fn what_check_writes_is_read_again()
     ensures { (text : List ℕ) (whole : InputOf) → ReadsInput text whole → has_short_lines whole.head.crm ≡ true → IsReadAgain (check_text whole) whole }
 {}
 
-/// The headline. What `replay` writes of an input is the one run of the given results: the whole run with status 0, and with 6, 5 and 7 the run up to where it
-/// is cut. Each transition has the one plan for the journal so far, whose targets obey the mandatory rules and are the best allowed after earlier placements;
-/// no action begins before all that must precede it have succeeded, and none makes a second copy or a forbidden neighbour of what may still run; and each
-/// complete transition ends in its targets. What stands written with any other status is a front of that run (`WritesASafeRun`, a clause of `run`).
+/// The headline. What `replay` writes of an input is the one run of the given results: the whole run with status 0, and with 6, 5 and 7 the run up to where
+/// it ends early. Each transition has the one plan for the journal so far, whose targets obey the mandatory rules and are the best allowed after earlier
+/// placements; no action begins before all that must precede it have succeeded, and none makes a second copy or a forbidden neighbour of what may still run;
+/// and each complete transition ends in its targets. What stands written with any other status is a front of that run (`WritesASafeRun`, a clause of `run`).
 pub fn what_replay_writes_is_one_safe_run()
     ensures { (input text : List ℕ) (outcome : StatusOf) → IsReplayOutput input outcome text → IsSafeOutput input outcome text }
 {}
 
 /// What `replay` writes with status 0 or 6 is read again as the lines of its run, whatever the input: with 6 the last of them is `unexpected LINE`.
 pub fn what_replay_writes_is_read_again()
-    ensures whole { (input text : List ℕ) → IsReplayOutput input Done text → IsRunReadAgain input text }
-    ensures cut { (input text : List ℕ) → IsReplayOutput input Unexpected text → IsRunReadAgain input text }
+    ensures whole { (input text : List ℕ) → IsReplayOutput input Done text → IsWholeRunReadAgain input text }
+    ensures cut { (input text : List ℕ) → IsReplayOutput input Unexpected text → IsCutRunReadAgain input text }
 {}
 
 /// The run of a valid cluster gets an end and a text, from any journal on and over whatever is to come of result lines, as long as that doesn't say that their

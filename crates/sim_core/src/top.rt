@@ -79,7 +79,8 @@ pub fn run<S: Source, W: Sink>(alloc: Global, words: &[String], src: &mut S, out
     ensures status { IfSome (command_of (map string_bytes words.now)) (λ word. IsStatusOf word result) }
     ensures reads_nothing { ReadsNothing (command_of (map string_bytes words.now)) → src.new ≡ src.old }
 
-    // An input that isn't read to its end within its size gives no text. Whatever the status, one byte past that size is the last that is read.
+    // An input that isn't read to its end within its size gives no text, nor does one for which memory runs out. Whatever the status, one byte past that size
+    // is the last that is read.
     ensures early { ReadsWhole (command_of (map string_bytes words.now)) → IsEarly result → out.new ≡ out.old }
     ensures taken { ReadsWhole (command_of (map string_bytes words.now))
         → TakesAtMost (most_bytes + 1) (S.left src.old) (S.left src.new) }

@@ -4,3 +4,4 @@ pub mod RealityLists
 pub mod NodeTurns
 pub mod Turns
 pub mod WorldTexts
+pub mod WorldLaws

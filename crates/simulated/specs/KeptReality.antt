@@ -1,4 +1,5 @@
--- What contracts see of a simulated cluster that is kept, and which simulated cluster it stands for (rule of this project).
+-- How a simulated cluster is kept, and which one it stands for (rule of this project).
+-- The lists of `RealityOf` are how it is kept. What happens in a simulated cluster is said of a `World`, and `ShowsWorld` joins both.
 use Rattle.std.specs.Prelude.{◌≡◌, ◌≢◌, ℕ, ◌+◌, ◌*◌, ◌<◌, Option, Some, List, length, slice_get}
 use Rattle.cluster_types.specs.declared.cluster.Cluster.{Cluster}
 use Rattle.simulated.specs.declared.real.Real.{Real}

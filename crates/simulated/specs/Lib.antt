@@ -1,6 +1,5 @@
 pub mod Inner
 pub mod Worlds
-pub mod WorldLaws
 pub mod RunsWithin
 pub mod RealWorlds
 pub mod Turns

@@ -35,7 +35,7 @@ is_fault fate.TimedOut = true
 abbrev pub with_node : ℕ → Standing → (ℕ → Standing) → (ℕ → Standing)
 with_node node standing nodes n = if node == n then standing else nodes n
 
--- how the nodes stand when an action is done: a fence turns its node off
+-- how the nodes stand when an action has really been done: a fence turns its node off
 abbrev pub fenced : Action → (ℕ → Standing) → (ℕ → Standing)
 fenced (Fence node) nodes = with_node node standing.Off nodes
 fenced (Probe leaf node) nodes = nodes

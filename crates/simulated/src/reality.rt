@@ -3,11 +3,11 @@
 ghost use Rattle.std.specs.Prelude.{◌≡◌, ◌*◌, ◌+◌, ◌<◌, None, length};
 ghost use Rattle.cluster_types.specs.Valid.{KeepsLimits};
 ghost use Rattle.cases.specs.Draws as drawing;
-ghost use Rattle.simulated.specs.KeptReality.{IsOfSame, NoneRises, ShowsWorld, reality};
+ghost use Rattle.simulated.specs.KeptReality.{IsOfSame, ListsCells, NoneRises, ShowsWorld, reality};
 ghost use Rattle.simulated.specs.Turns.{after_begin};
 ghost use Rattle.simulated.specs.Inner.Turns.{calm, with_draws};
 ghost use Rattle.simulated.specs.RealWorlds as worlds;
-ghost use Rattle.simulated.specs.RealWorlds.{World};
+ghost use Rattle.simulated.specs.RealWorlds.{Cells, World};
 
 use crate::acts::begin;
 use crate::cells::found_at;
@@ -71,7 +71,8 @@ impl<'c> Reality<'c> {
 
     /// What a leaf really does on a node; where the cluster has no such cell, nothing.
     pub fn real(&self, leaf: LeafId, node: NodeId) -> Real
-        ensures { (w : World) → ShowsWorld self.now w → result ≡ worlds.found_at self.now.cluster w.cells leaf node }
+        ensures kept { (held : Cells) → ListsCells self.now.cluster self.now.cells held → result ≡ worlds.found_at self.now.cluster held leaf node }
+        ensures shown { (w : World) → ShowsWorld self.now w → result ≡ worlds.found_at self.now.cluster w.cells leaf node }
     {
         found_at(self.cluster, leaf, node, self.cells.as_slice())
     }

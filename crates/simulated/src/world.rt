@@ -71,7 +71,7 @@ impl<'c> World<'c> {
 
 impl Outcomes for World<'_> {
     ghost use Rattle.simulated.specs.Worlds.{IsOfOne};
-    ghost use Rattle.simulated.specs.WorldLaws.{agrees_anew, one_itself, one_then};
+    ghost use Rattle.simulated.specs.Inner.WorldLaws.{agrees_anew, one_itself, one_then};
 
     ghost rest = { λ _. None };
 

@@ -90,7 +90,7 @@ fn on_fail_of_leaf(leaf: &Leaf, op: Op, interval_ms: u32) -> OnFail
 fn on_fail_of_op(cluster: &Cluster, leaf: LeafId, op: Op, interval_ms: u32) -> OnFail
     ensures { result ≡ outcomes.on_fail_of_op cluster.now leaf op interval_ms }
 {
-    match cluster.leaves.as_slice().get(leaf as usize) {
+    match cluster.leaf(leaf) {
         Some(leaf) => on_fail_of_leaf(leaf, op, interval_ms),
         None => OnFail::Restart,
     }

@@ -20,6 +20,8 @@ struct Counting<'a> {
 impl Sink for Counting<'_> {
     ghost written = { λ s. Some s.inner.held };
 
+    ghost offered = { λ _. None };
+
     ghost faults = { λ s. s.inner.faults };
 
     ghost counts_only_failures = { true };

@@ -1,4 +1,5 @@
--- What the lines of a run tell by themselves, and what is promised of them: for whoever reads the lines, and no definition of a run (rules of this project).
+-- What the lines of a run tell by themselves, and what is promised of them: for whoever reads the lines, and no definition of a run. Only the
+-- last record speaks of runs: it ties the journal that the lines tell to that of the run (rules of this project).
 use Rattle.std.specs.Prelude.{◌≡◌, ◌≢◌, ℕ, ◌<◌, ⊤, length, Bool, true, false, Option, IfSome, List, [], ◌∷◌, ◌++◌, Contains}
 use Rattle.cluster_types.specs.declared.cluster.Cluster.{Cluster}
 use Rattle.cluster_types.specs.declared.journal.Action.{Action}

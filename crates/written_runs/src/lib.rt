@@ -6,7 +6,7 @@ mod over_lines;
 mod read_again;
 mod some_runs;
 
-pub use over_lines::{lines_of_runs_are_safe, lines_tell_one_journal};
+pub use over_lines::{journals_that_lines_tell_are_unique, lines_of_runs_are_safe};
 pub use read_again::{
     runs_of_texts_read_again, runs_print_lines_of_their_cluster, texts_of_runs_read_again,
     what_is_read_fits,

@@ -21,7 +21,7 @@ pub fn lines_of_runs_are_safe()
 {}
 
 /// Some lines tell one journal. Those of a run tell the journal that it has where it stands, and each front of them tells one that it had on the way.
-pub fn lines_tell_one_journal()
+pub fn journals_that_lines_tell_are_unique()
     ensures one { (c : ClusterOf) (es later other : List EventOf) (lines : List LineOf) → LinesTell c es lines later → LinesTell c es lines other → later ≡ other }
     ensures of_run { (c : ClusterOf) (promotions : List PromotionOf) (whole : Bool) (es : List EventOf) (rest left : Option (List AnswerOf)) (lines : List LineOf) (at : RunStanding)
         → IsAtRest es → Runs c promotions whole (due 1 es) rest lines at left → LinesTell c es lines (journal_at at) }

@@ -1,3 +1,4 @@
+use crate::checked::assert_row;
 use crate::reading::lines;
 use crm_parse::{ParseCause, ParseFault, audit_sections, sections};
 use std::alloc::Global;
@@ -53,7 +54,7 @@ const WITH_RESULTS: &[(&str, Places)] = &[
 #[test]
 fn sections_with_results(rt: HostRuntime) {
     for (text, want) in WITH_RESULTS {
-        assert!(rt; results_at(&rt, rt.alloc(), text) == *want, "{text}");
+        assert_row(&rt, results_at(&rt, rt.alloc(), text) == *want, text);
     }
 }
 
@@ -67,6 +68,6 @@ const WITH_TRACE: &[(&str, Places)] = &[
 #[test]
 fn sections_with_a_trace(rt: HostRuntime) {
     for (text, want) in WITH_TRACE {
-        assert!(rt; trace_at(&rt, rt.alloc(), text) == *want, "{text}");
+        assert_row(&rt, trace_at(&rt, rt.alloc(), text) == *want, text);
     }
 }

@@ -1,3 +1,4 @@
+use crate::checked::assert_row;
 use crate::reading::crm;
 use std::alloc::Global;
 use std::process::Abort;
@@ -56,13 +57,13 @@ fn are_alike(rt: &impl Abort, alloc: Global, one: &str, other: &str) -> bool {
 #[test]
 fn texts_that_say_the_same(rt: HostRuntime) {
     for (one, other) in ALIKE {
-        assert!(rt; are_alike(&rt, rt.alloc(), one, other), "{one}");
+        assert_row(&rt, are_alike(&rt, rt.alloc(), one, other), one);
     }
 }
 
 #[test]
 fn meanings_of_rules(rt: HostRuntime) {
     for (one, other) in DIFFERENT {
-        assert!(rt; !are_alike(&rt, rt.alloc(), one, other), "{one}");
+        assert_row(&rt, !are_alike(&rt, rt.alloc(), one, other), one);
     }
 }

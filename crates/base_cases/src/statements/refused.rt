@@ -1,3 +1,4 @@
+use crate::checked::assert_row;
 use crate::reading::lines;
 use crm_parse::{ParseCause, ParseFault, parse};
 use std::alloc::Global;
@@ -17,7 +18,7 @@ fn is_refused(rt: &impl Abort, alloc: Global, text: &str, line: u32, cause: Pars
 
 fn assert_refused(rt: &impl Abort, alloc: Global, cause: ParseCause, table: &[Row]) {
     for (line, text) in table {
-        assert!(rt; is_refused(rt, alloc, text, *line, cause), "{text}");
+        assert_row(rt, is_refused(rt, alloc, text, *line, cause), text);
     }
 }
 

@@ -1,3 +1,4 @@
+use crate::checked::assert_row;
 use crm_parse::{
     ActionWord, KindWord, RoleName, action_of, bool_of, count_of, kind_of, role_of, time_of,
 };
@@ -41,14 +42,14 @@ const COUNTS: &[(&str, Option<u32>)] = &[
 #[test]
 fn times(rt: HostRuntime) {
     for (text, want) in TIMES {
-        assert!(rt; time_of(text.as_bytes()) == *want, "{text}");
+        assert_row(&rt, time_of(text.as_bytes()) == *want, text);
     }
 }
 
 #[test]
 fn counts(rt: HostRuntime) {
     for (text, want) in COUNTS {
-        assert!(rt; count_of(text.as_bytes()) == *want, "{text}");
+        assert_row(&rt, count_of(text.as_bytes()) == *want, text);
     }
 }
 
@@ -81,7 +82,7 @@ const ROLES: &[(&str, Option<RoleName>)] = &[
 #[test]
 fn words_of_a_role(rt: HostRuntime) {
     for (text, want) in ROLES {
-        assert!(rt; role_of(text.as_bytes()) == *want, "{text}");
+        assert_row(&rt, role_of(text.as_bytes()) == *want, text);
     }
 }
 

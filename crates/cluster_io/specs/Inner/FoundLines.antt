@@ -1,6 +1,6 @@
 -- What was found in the bytes that a reader of lines holds.
 use Rattle.std.specs.Prelude.{◌≡◌, ℕ, ◌+◌, ◌-◌, ◌≤◌, ◌<◌, false, if◌then◌else◌, List, ◌++◌, length, take, slice_range, slice_index}
-use Rattle.crm_lex.specs.RawLines.{physical_lines, content, ends_in}
+use Rattle.crm_lex.specs.RawLines.{physical_lines, ends_in}
 use Rattle.cluster_io.specs.NextLine.{reader_answer, first_line, has_feed, holds_line, IsUndecided}
 use Rattle.cluster_io.specs.declared.line_scan.Scan.{Scan}
 use Rattle.cluster_io.specs.declared.line_scan.Bounds.{Bounds}

@@ -11,7 +11,7 @@ use Rattle.crm_parse.specs.Grammar.Phrases.{ColonSays, TableSays}
 abbrev pub ScoreSays : List ℕ → ℤ → Type 0
 ScoreSays = ColonSays (TableSays read_score)
 
--- a role that is taken in rules: `Started`; or `Promoted` and `Master`, which are the same; in any case. `Unpromoted`, `Slave` and `Stopped` aren't taken
+-- a role that is taken in rules: `Started`; or `Promoted` and `Master`, which are the same; in upper or lower case. `Unpromoted`, `Slave` and `Stopped` aren't taken
 pub data TakenRoleSays : List ℕ → RoleWord → Type 0 where
   says_started : (text : List ℕ) → role_of text ≡ Some named.Started → TakenRoleSays text role.Started
   says_promoted : (text : List ℕ) → role_of text ≡ Some named.Promoted → TakenRoleSays text role.Promoted

@@ -1,5 +1,5 @@
 -- How positions are cleared: a position is clear once each edge from it leads to one that was taken (rule of this project).
-use Rattle.std.specs.Prelude.{◌≡◌, ◌<◌, ◌≤◌, ◌+◌, ◌-◌, ℕ, ◌==◌, ◌&&◌, true, not, if◌then◌else◌, List, [], ◌∷◌, ◌++◌, length, take, count_by, slice_index_or, slice_set, Contains}
+use Rattle.std.specs.Prelude.{◌≡◌, ◌<◌, ◌≤◌, ◌+◌, ℕ, ◌==◌, ◌&&◌, true, not, if◌then◌else◌, List, [], ◌∷◌, ◌++◌, length, take, count_by, slice_index_or, Contains}
 use Rattle.std.specs.List.{IsDistinct}
 use Rattle.edges.specs.declared.edge.Edge.{Edge}
 use Rattle.edges.specs.Loops.{HasLoop, HasNoLoop}
@@ -12,10 +12,6 @@ edges_from edges x = count_by (λ e. x == e.before) edges
 -- how many of them lead to positions that aren't among these
 abbrev pub edges_beyond : List Edge → List ℕ → ℕ → ℕ
 edges_beyond edges taken x = count_by (λ e. x == e.before && not (is_in_list taken e.after)) edges
-
--- the counts when one edge of the position is counted off
-abbrev pub less_one : List ℕ → ℕ → List ℕ
-less_one waiting x = slice_set waiting x (slice_index_or waiting x 0 - 1)
 
 -- the clear positions then: the position is one more if that was its last edge
 abbrev pub cleared_then : List ℕ → List ℕ → ℕ → List ℕ

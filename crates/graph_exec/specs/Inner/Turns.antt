@@ -8,7 +8,6 @@ use Rattle.cluster_types.specs.declared.journal.Promotion.{Promotion}
 use Rattle.cluster_types.specs.declared.placement.Placed.{Placed}
 use Rattle.cluster_types.specs.declared.plan.Plan.{Plan}
 use Rattle.cluster_types.specs.declared.run.RunLine.{RunLine}
-use Rattle.cluster_types.specs.declared.states.States.{States}
 use Rattle.cluster_types.specs.Runs.{RunStanding, due, idle, Runs, RunsOn, IsAsking, IsBetween, IsCutAt, IsOver, journal_at}
 use Rattle.cluster_types.specs.Plans.{CarriesOut}
 use Rattle.cluster_types.specs.UnpackedStates.{states_of}
@@ -141,8 +140,8 @@ Serves c plan =
     (es : List Event) (promotions : List Promotion) → plan.states ≡ states_of c es promotions → CarriesOut c es promotions plan.placed plan.graph
 
 -- a plan that is being carried out serves again
-abbrev pub ServesAgain : Cluster → States → Planned → Type 0
-ServesAgain c states p = Serves c (record { states = states; rights = p.rights; placed = p.placed; graph = p.executor.graph })
+abbrev pub ServesAgain : Cluster → Planned → Type 0
+ServesAgain c p = Serves c (record { states = p.states; rights = p.rights; placed = p.placed; graph = p.executor.graph })
 
 -- its graph carries out a plan
 pub record HasPlannedGraph (r : ExecutorOf) : Type 0 where

@@ -30,22 +30,29 @@ fn nothing_to_do(alloc: Global) -> Graph
     Graph::new(Vec::new(alloc), edges)
 }
 
-/// Asks the source while nothing is to be done. Gives its answer, and the journal with what that adds; or says how the run ends
-/// here. All memory is taken before the source is asked. What that says is at hand, or this watcher holds nothing back.
+/// An answer that was taken while nothing was to be done, and the journal with what it adds.
+#[derive(Drop)]
+pub(crate) struct Taken<'c> {
+    pub answer: Answer,
+    pub journal: KnownJournal<'c>,
+}
+
+/// Asks the source while nothing is to be done. Takes its answer, or says how the run ends here. All memory is taken before
+/// the source is asked. What that says is at hand, or this watcher holds nothing back.
 pub(crate) fn ask_idle<'c, S: Outcomes, V: Watcher>(
     alloc: Global,
     journal: KnownJournal<'c>,
     outcomes: &mut S,
     watcher: &V,
-) -> Result<(Answer, KnownJournal<'c>), Ended>
+) -> Result<Taken<'c>, Ended>
     requires resting { in_flight_by_begin journal.events ≡ [] }
     requires in_time { S.at_hand outcomes.old ⊎ V.quiet watcher.now }
-    ensures answered { IfOk result (λ taken. IsAnswered (S.whole outcomes.old) journal.entry (S.rest outcomes.old) (S.rest outcomes.new) taken.0 taken.1) }
+    ensures answered { IfOk result (λ taken. IsAnswered (S.whole outcomes.old) journal.entry (S.rest outcomes.old) (S.rest outcomes.new) taken.answer taken.journal) }
     ensures unanswered { IfErr result
         (IsUnanswered (S.whole outcomes.old) journal.entry (S.rest outcomes.old) (S.rest outcomes.new) (S.over outcomes.old)) }
 
     ensures agrees { S.agrees outcomes.old journal.entry.cluster journal.entry.events 0
-        → IfOk result (λ taken. S.agrees outcomes.new journal.entry.cluster taken.1.events 0) }
+        → IfOk result (λ taken. S.agrees outcomes.new journal.entry.cluster taken.journal.events 0) }
     ensures agrees_at_end { S.agrees outcomes.old journal.entry.cluster journal.entry.events 0
         → IfErr result (OfMade (AgreesWith (S.agrees outcomes.new) journal.entry.cluster)) }
     ensures fitting { S.careful outcomes.old ≡ true → S.agrees outcomes.old journal.entry.cluster journal.entry.events 0
@@ -66,7 +73,10 @@ pub(crate) fn ask_idle<'c, S: Outcomes, V: Watcher>(
                 return Err(Err(ReplayStop::Unexpected(journal, answer)));
             }
             course.enter(answer);
-            Ok((answer, course.into_known()))
+            Ok(Taken {
+                answer,
+                journal: course.into_known(),
+            })
         }
         Next::Silent => Err(Ok(course.into_known().into_journal())),
         Next::Failed => {
@@ -121,9 +131,9 @@ pub(crate) fn take_idle<'c, S: Outcomes, V: Watcher>(
         return Err(Err(ReplayStop::Stopped(journal.into_journal())));
     }
     match ask_idle(alloc, journal, outcomes, watcher) {
-        Ok((answer, later)) => match watcher.taken(answer) {
-            Heard::Go => Ok(later),
-            Heard::Stop => Err(Err(ReplayStop::Stopped(later.into_journal()))),
+        Ok(taken) => match watcher.taken(taken.answer) {
+            Heard::Go => Ok(taken.journal),
+            Heard::Stop => Err(Err(ReplayStop::Stopped(taken.journal.into_journal()))),
         },
         Err(end) => Err(end),
     }

@@ -98,9 +98,10 @@ pub(crate) fn keep_transition<'c, S: Outcomes>(
     ensures questions_at_end { IfErr result (AskedByEnd events_left (S.asked outcomes.old) (S.asked outcomes.new) journal.entry.events) }
 {
     let begins_at = journal.count();
-    let Ok((_, planned)) = plan_next(alloc, journal, None) else {
+    let Ok(planned) = plan_next(alloc, journal, None) else {
         return Err(Err(ReplayStop::NoMemory));
     };
+    drop(planned.states);
     let mut executor = planned.executor;
     let end = run_transition(&mut executor, outcomes);
     let later = executor.into_known();
@@ -110,7 +111,7 @@ pub(crate) fn keep_transition<'c, S: Outcomes>(
     };
     match end {
         End::Complete => match ask_idle(alloc, later, outcomes, &Unwatched) {
-            Ok((_answer, next)) => Ok(next),
+            Ok(taken) => Ok(taken.journal),
             Err(ended) => Err(ended),
         },
         End::Aborted(_) => Ok(later),

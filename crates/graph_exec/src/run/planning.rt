@@ -12,9 +12,11 @@ use cluster_types::{Cluster, NoMemory, Placed, Plan, Rights, States};
 use planner::plan_of;
 use std::alloc::Global;
 
-/// A transition of which nothing has begun; what its cluster may do, and where everything goes by its plan.
+/// A transition of which nothing has begun, with the rest of its plan: the states that it was made for, what the cluster may do
+/// by them, and where everything goes.
 #[derive(Drop)]
 pub(crate) struct Planned<'c> {
+    pub states: States,
     pub rights: Rights,
     pub placed: Placed,
     pub executor: Executor<'c>,
@@ -42,28 +44,28 @@ fn plan_for(
     Ok(plan)
 }
 
-/// The transition that is planned for the journal, and the states that its plan was made for. Where the journal tells the same
-/// states as that of the last plan, that plan serves again. All memory of it is taken here.
+/// The transition that is planned for the journal. Where the journal tells the same states as that of the last plan, that plan
+/// serves again. All memory of it is taken here.
 pub(crate) fn plan_next<'c>(
     alloc: Global,
     journal: KnownJournal<'c>,
     last: Option<Plan>,
-) -> Result<(States, Planned<'c>), NoMemory>
+) -> Result<Planned<'c>, NoMemory>
     requires valid { IsValid journal.cluster }
     requires at_rest { IsAtRest journal.events }
     requires last { IfSome last (Serves journal.cluster) }
-    ensures ready { IfOk result (λ next. IsReady journal.entry next.1) }
-    ensures serves { IfOk result (λ next. ServesAgain journal.entry.cluster next.0 next.1) }
+    ensures ready { IfOk result (IsReady journal.entry) }
+    ensures serves { IfOk result (ServesAgain journal.entry.cluster) }
 {
     let states = journal.states(alloc)?;
     let plan = plan_for(alloc, journal.cluster(), states, last)?;
     let Ok(executor) = Executor::on(alloc, journal, plan.graph) else {
         return Err(NoMemory);
     };
-    let planned = Planned {
+    Ok(Planned {
+        states: plan.states,
         rights: plan.rights,
         placed: plan.placed,
         executor,
-    };
-    Ok((plan.states, planned))
+    })
 }

@@ -28,8 +28,15 @@ fn stopped<P: Drop>(executor: Executor<'_>, _plan: P) -> Ended
     Err(ReplayStop::Stopped(executor.into_journal()))
 }
 
+/// A transition that was made: its plan, and the journal for which the next is due.
+#[derive(Drop)]
+pub(crate) struct Turn<'c> {
+    pub plan: Plan,
+    pub journal: KnownJournal<'c>,
+}
+
 /// Makes the transition of this number in the run: plans it, carries it out, and, where it is complete, takes the answer
-/// that comes then. Gives the plan, with the journal for which the next is due, or says how the run ends.
+/// that comes then; or says how the run ends.
 pub(crate) fn make_transition<'c, S: Outcomes, V: Watcher>(
     alloc: Global,
     journal: KnownJournal<'c>,
@@ -37,7 +44,7 @@ pub(crate) fn make_transition<'c, S: Outcomes, V: Watcher>(
     outcomes: &mut S,
     watcher: &mut V,
     number: u32,
-) -> Result<(Plan, KnownJournal<'c>), Ended>
+) -> Result<Turn<'c>, Ended>
     requires valid { IsValid journal.cluster }
     requires at_rest { IsAtRest journal.events }
     requires last { IfSome last (Serves journal.cluster) }
@@ -47,8 +54,8 @@ pub(crate) fn make_transition<'c, S: Outcomes, V: Watcher>(
         (due number journal.entry.events)
         (sight (S.rest outcomes.old) (S.over outcomes.old))
         (sight (S.rest outcomes.new) (S.over outcomes.new))
-        (due (number + 1)) turn.1) }
-    ensures serves { IfOk result (λ turn. Serves journal.entry.cluster turn.0) }
+        (due (number + 1)) turn.journal) }
+    ensures serves { IfOk result (λ turn. Serves journal.entry.cluster turn.plan) }
     ensures ends { IfErr result (RunEndsAs (V.follows watcher.old watcher.new)
         (setting journal.entry.cluster journal.entry.promotions (S.whole outcomes.old) (S.steady outcomes.old))
         (due number journal.entry.events)
@@ -57,30 +64,30 @@ pub(crate) fn make_transition<'c, S: Outcomes, V: Watcher>(
         number (V.stopped watcher.old watcher.new)) }
 
     ensures agrees { S.agrees outcomes.old journal.entry.cluster journal.entry.events 0
-        → IfOk result (λ turn. S.agrees outcomes.new journal.entry.cluster turn.1.events 0) }
+        → IfOk result (λ turn. S.agrees outcomes.new journal.entry.cluster turn.journal.events 0) }
     ensures agrees_at_end { S.agrees outcomes.old journal.entry.cluster journal.entry.events 0
         → IfErr result (OfMade (AgreesWith (S.agrees outcomes.new) journal.entry.cluster)) }
     ensures fitting { S.careful outcomes.old ≡ true → S.agrees outcomes.old journal.entry.cluster journal.entry.events 0 → IfErr result IsReplayExpected }
 
     ensures source { SourceLasts S.Outcomes outcomes.old outcomes.new (part_word result) }
     ensures answer { IfOk result (λ _. Rose (S.answered outcomes.old) (S.answered outcomes.new)) }
-    ensures questions { IfOk result (λ turn. AskedBeside 0 (S.asked outcomes.old) (S.asked outcomes.new) journal.entry.events turn.1.events) }
+    ensures questions { IfOk result (λ turn. AskedBeside 0 (S.asked outcomes.old) (S.asked outcomes.new) journal.entry.events turn.journal.events) }
     ensures questions_at_end { IfErr result (AskedByEnd events_left (S.asked outcomes.old) (S.asked outcomes.new) journal.entry.events) }
     ensures watcher { WatcherLasts V.Watcher watcher.old watcher.new (part_heard result) }
     ensures quiet { IfErr result (IsQuietInFault (S.broke outcomes.new) (V.quiet watcher.new)) }
     ensures shown { V.shown watcher.old Heard.Go (view_between journal.entry.cluster journal.entry.promotions journal.entry.events)
-        → IfOk result (λ turn. V.shown watcher.new Heard.Go (view_between journal.entry.cluster journal.entry.promotions turn.1.events)) }
+        → IfOk result (λ turn. V.shown watcher.new Heard.Go (view_between journal.entry.cluster journal.entry.promotions turn.journal.events)) }
     ensures shown_at_end { V.shown watcher.old Heard.Go (view_between journal.entry.cluster journal.entry.promotions journal.entry.events)
         → IfErr result (IsShownEnd (V.shown watcher.new) journal.entry.cluster journal.entry.promotions) }
 {
-    let Ok((states, planned)) = plan_next(alloc, journal, last) else {
+    let Ok(planned) = plan_next(alloc, journal, last) else {
         return Err(Err(ReplayStop::NoMemory));
     };
     if let Heard::Stop = watcher.planned(number, &planned.placed) {
-        return Err(stopped(planned.executor, (states, planned.placed)));
+        return Err(stopped(planned.executor, (planned.states, planned.placed)));
     }
     let carried = carry_out(planned.executor, outcomes, watcher, number);
-    let ((states, placed), (complete, parts)) = match with((states, planned.placed), carried) {
+    let ((states, placed), closed) = match with((planned.states, planned.placed), carried) {
         Ok(both) => both,
         Err(ended) => return Err(ended),
     };
@@ -88,14 +95,17 @@ pub(crate) fn make_transition<'c, S: Outcomes, V: Watcher>(
         states,
         rights: planned.rights,
         placed,
-        graph: parts.graph,
+        graph: closed.graph,
     };
-    if !complete {
-        return Ok((plan, parts.journal));
+    if !closed.complete {
+        return Ok(Turn {
+            plan,
+            journal: closed.journal,
+        });
     }
-    let taken = take_idle(alloc, parts.journal, outcomes, watcher, number);
+    let taken = take_idle(alloc, closed.journal, outcomes, watcher, number);
     match with(plan, taken) {
-        Ok(turn) => Ok(turn),
+        Ok((plan, journal)) => Ok(Turn { plan, journal }),
         Err(ended) => Err(ended),
     }
 }

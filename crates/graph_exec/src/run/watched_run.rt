@@ -66,12 +66,12 @@ pub fn replay_watched<S: Outcomes, V: Watcher>(
     };
     let mut last = None;
     for made in 0..most {
-        let (plan, later) = match make_transition(alloc, known, last, outcomes, watcher, made + 1) {
+        let turn = match make_transition(alloc, known, last, outcomes, watcher, made + 1) {
             Ok(turn) => turn,
             Err(ended) => return ended,
         };
-        known = later;
-        last = Some(plan);
+        known = turn.journal;
+        last = Some(turn.plan);
     }
     Err(ReplayStop::Most(known.into_journal()))
 }

@@ -12,9 +12,10 @@ use cluster_types::{Event, Graph};
 use std::alloc::Global;
 use std::marker::Model;
 
-/// A transition that goes on: its graph, the journal when it was planned, and the events since, whatever these are.
+/// A transition under way: its graph, the journal when it was made, and the events since, whatever these are. A wait while
+/// nothing is to be done is kept as one without actions.
 ///
-/// All memory is taken when it is made: that of two events of each action, and of 256 answers from outside.
+/// All memory is taken when it is made.
 #[derive(Drop)]
 pub(crate) struct Course<'c> {
     pub(crate) log: Log<'c>,
@@ -32,7 +33,14 @@ impl<'c> Model for Course<'c> {
     ghost invariant = { λ e. InFlightFollows e.log e.flight };
 }
 
-/// What a transition is made of, and what it leaves: the journal, with what it tells, and the graph.
+/// Memory ran out before anything began. The journal, with what it tells, and the graph are handed back as they were.
+#[derive(Drop)]
+pub struct NotBegun<'c> {
+    pub journal: KnownJournal<'c>,
+    pub graph: Graph,
+}
+
+/// What a transition leaves: the journal, with what it tells, and the graph, so that it can be carried out again.
 #[derive(Drop)]
 pub struct Parts<'c> {
     pub journal: KnownJournal<'c>,
@@ -45,21 +53,22 @@ impl<'c> Course<'c> {
         alloc: Global,
         journal: KnownJournal<'c>,
         graph: Graph,
-    ) -> Result<Course<'c>, Parts<'c>>
+    ) -> Result<Course<'c>, NotBegun<'c>>
         ensures ok { IfOk result (λ e. e ≡ fresh_on journal.entry graph) }
         ensures journal { IfErr result (λ back. back.journal ≡ journal.entry) }
         ensures graph { IfErr result (λ back. back.graph ≡ graph) }
     {
+        // An action begins and ends once, and at most 256 answers from outside are taken.
         let more = 2 * graph.count() as usize + 256;
         let log = match Log::new(journal, more) {
             Ok(log) => log,
-            Err(journal) => return Err(Parts { journal, graph }),
+            Err(journal) => return Err(NotBegun { journal, graph }),
         };
         match InFlight::new(alloc, graph) {
             Ok(flight) => Ok(Course { log, flight }),
             Err(graph) => {
                 let journal = log.into_known();
-                Err(Parts { journal, graph })
+                Err(NotBegun { journal, graph })
             }
         }
     }

@@ -11,7 +11,7 @@ ghost use Rattle.graph_exec.specs.Executors.{BeginsNow, IsAnswerRefused, StaysSe
 ghost use Rattle.graph_exec.specs.Inner.ExecutorFields.{EndedSilently};
 ghost use Rattle.graph_exec.specs.Transitions.{EndsAs, EndedByItself};
 
-use crate::transition::course::{Course, Parts};
+use crate::transition::course::{Course, NotBegun, Parts};
 use crate::transition::ends::WatchedEnd;
 use crate::transition::flight::InFlight;
 use crate::transition::known_journal::KnownJournal;
@@ -81,7 +81,7 @@ impl<'c> Executor<'c> {
         alloc: Global,
         journal: KnownJournal<'c>,
         graph: Graph,
-    ) -> Result<Executor<'c>, Parts<'c>>
+    ) -> Result<Executor<'c>, NotBegun<'c>>
         ensures ok { IfOk result (λ e. e ≡ fresh_on journal.entry graph) }
         ensures journal { IfErr result (λ back. back.journal ≡ journal.entry) }
         ensures graph { IfErr result (λ back. back.graph ≡ graph) }

@@ -1,12 +1,11 @@
 ghost use Rattle.std.specs.Prelude.{◌≡◌, ◌<◌, ◌≤◌, ◌+◌, ◌-◌, ◌==◌, ◌++◌, ◌∷◌, [], ℕ, true, false, IfOk, length, filter, replicate, slice_index_or, slice_set, vec_len, vec_capacity};
 ghost use Rattle.std.specs.List.{range_with_len};
 ghost use Rattle.cluster_types.specs.Graphs.{IsGraph};
-ghost use Rattle.edges.specs.Inner.Clearing.{less_one};
 ghost use Rattle.graph_exec.specs.Inner.ClearedPositions.{ClearsGates, gates_cleared_then, ready_then};
-ghost use Rattle.edges.specs.Rows.{edge_targets};
+ghost use Rattle.edges.specs.Rows.{edge_targets, less_one};
 
 use cluster_types::Graph;
-use edges::{Rows, Side, count_ends};
+use edges::{Rows, Side, count_ends, count_off};
 use listed::{NumberSet, none_set};
 use std::alloc::{AllocError, Global};
 
@@ -130,9 +129,7 @@ impl Queue {
         ensures succeeded { self.new.succeeded ≡ self.old.succeeded }
         ensures room { vec_capacity self.new.cleared ≡ vec_capacity self.old.cleared }
     {
-        let left = self.left[target as usize] - 1;
-        self.left[target as usize] = left;
-        if left > 0 {
+        if !count_off(&mut self.left, target) {
             return;
         }
         if target < actions {

@@ -4,7 +4,6 @@ ghost use Rattle.std.specs.Prelude.{◌≡◌};
 ghost use Rattle.faults.specs.Reading.{Reads};
 ghost use Rattle.input_reading.specs.LineWords.{action_of_op, action_word, action_word_at, id_at, line_word, pin_at, pin_named, reason_of, target_at, target_of};
 
-use crate::words::op_words::op_named;
 use crate::{WordCause, Words, word_at};
 use cluster_types::{NoReason, Op, Pin, Target};
 use crm_lex::is;
@@ -132,7 +131,7 @@ fn action_word(word: &[u8]) -> Option<ActionWord>
     } else if is(word, b"migrate_from") {
         Some(ActionWord::MigrateFrom)
     } else {
-        op_named(word).map(action_of_op)
+        Op::from_word(word).map(action_of_op)
     }
 }
 

@@ -8,7 +8,6 @@ ghost use Rattle.input_reading.specs.Inner.FirstJournal.{is_known};
 ghost use Rattle.input_reading.specs.Status.{history_action, cleanup_line, fitting, interval_as, interval_at, may_have, node_line, node_word, now_line, op_at, op_line, outcome_at, outcome_of, promotable, promotable_at, promotion_line, quorum_line, score_at, state_at, status_word, told_as, told_of};
 
 use crate::status::line_meaning::{Fact, NodeWord};
-use crate::words::op_words::op_named;
 use crate::{
     WordCause, Words, code_of, end_at, interval_of, leaf_at, node_at, seconds_at, word_at, yes_at,
 };
@@ -133,7 +132,7 @@ fn op_at<W: Words>(
     ensures { result ≡ op_at names.now leaf place (W.words words.now) }
 {
     let word = word_at(place, words)?;
-    let op = op_named(word).ok_or(WordCause::BadValue)?;
+    let op = Op::from_word(word).ok_or(WordCause::BadValue)?;
     fitting(names, leaf, op)
 }
 

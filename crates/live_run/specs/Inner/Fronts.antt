@@ -4,7 +4,7 @@ use Rattle.std.proofs.Math.Seq.{take-append-add, take-length}
 use Rattle.std.proofs.lemmas.List.{take-append-le}
 use Rattle.cluster_io.specs.Streams.{Adds, AddsPrefix}
 use Rattle.cluster_io.proofs.Pieces.{Adds-then}
-use Rattle.live_run.specs.HeldAndWritten.{BreaksOff, GoesOut, most_held}
+use Rattle.live_run.specs.HeldAndWritten.{WritesInPart, GoesOut, most_held}
 use Rattle.run_safety.specs.TwoRuns.{IsFront}
 
 -- nothing is added
@@ -28,13 +28,13 @@ pub front_prefix : (xs text : List ℕ) (old new : Option (List ℕ)) → IsFron
 front_prefix xs text old new f p = subst (λ (t : List ℕ). AddsPrefix t old new) (sym f.joined) (prefix_first xs f.more old new p)
 
 -- the sink failed before a last text, as what was held back left
-pub short_first : (held last : List ℕ) (before after : Option (List ℕ)) → AddsPrefix held before after → length held ≤ most_held → BreaksOff held last before after
+pub short_first : (held last : List ℕ) (before after : Option (List ℕ)) → AddsPrefix held before after → length held ≤ most_held → WritesInPart held last before after
 unfolding prefix_first
 short_first held last before after p small = record { front = prefix_first held last before after p; few_missing = omega (arith, small) }
 
 -- a first part has left before, and of the rest a front was written
 pub short_rest : (text last out rest : List ℕ) (before middle after : Option (List ℕ)) → text ++ last ≡ out ++ rest → Adds before out middle
-    → (p : AddsPrefix rest middle after) → length text ≤ length out + p.count + most_held → BreaksOff text last before after
+    → (p : AddsPrefix rest middle after) → length text ≤ length out + p.count + most_held → WritesInPart text last before after
 short_rest text last out rest before middle after parts a p few = record {
   front = record {
     count = length out + p.count;
@@ -47,7 +47,7 @@ short_rest text last out rest before middle after parts a p few = record {
 
 -- a text was added behind what was held back, and then the sink failed at a last one
 pub short_behind : (text held held_then last : List ℕ) (before middle after : Option (List ℕ)) → GoesOut text held held_then before middle
-    → BreaksOff held_then last middle after → BreaksOff (held ++ text) last before after
+    → WritesInPart held_then last middle after → WritesInPart (held ++ text) last before after
 short_behind text held held_then last before middle after a b =
     let size = ap length a.parts in
     let few = b.few_missing in

@@ -5,7 +5,7 @@ use Rattle.cluster_io.specs.declared.sink.WriteFault.{WriteFault}
 use Rattle.live_run.specs.declared.line_stop.LineStop.{LineStop}
 use Rattle.live_run.specs.declared.line_stop.LineStop.TheVariants as why
 use Rattle.live_run.specs.LineCauses.{line_refusal_text}
-use Rattle.live_run.specs.HeldAndWritten.{BreaksOff}
+use Rattle.live_run.specs.HeldAndWritten.{WritesInPart}
 use Rattle.live_run.specs.declared.live_end.LiveEnd.{LiveEnd}
 use Rattle.live_run.specs.declared.live_end.LiveEnd.TheVariants as end
 
@@ -18,9 +18,9 @@ end_as how (Err fault) = end.WriteFault
 -- these where the sink failed. Where the source has failed, nothing was held back
 abbrev pub EndsLines : List ℕ → Option LineStop → LiveEnd → Option (List ℕ) → Option (List ℕ) → Type 0
 EndsLines held (Some (why.Refused n cause)) end.Refused before after = Adds before (held ++ line_refusal_text n cause) after
-EndsLines held (Some (why.Refused n cause)) end.WriteFault before after = BreaksOff held (line_refusal_text n cause) before after
+EndsLines held (Some (why.Refused n cause)) end.WriteFault before after = WritesInPart held (line_refusal_text n cause) before after
 EndsLines held (Some why.TooLarge) end.TooLarge before after = Adds before held after
-EndsLines held (Some why.TooLarge) end.WriteFault before after = BreaksOff held [] before after
+EndsLines held (Some why.TooLarge) end.WriteFault before after = WritesInPart held [] before after
 EndsLines held (Some why.ReadFault) end.ReadFault before after = after ≡ before
 EndsLines held None end.ReadFault before after = after ≡ before
 EndsLines held stop how before after = ⊥

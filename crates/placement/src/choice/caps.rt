@@ -36,7 +36,8 @@ fn promote_cap(cluster: &Cluster, leaf: LeafId) -> u32
 }
 
 /// How many nodes the decision chooses at most: the copies of the leaf, or for a promotion its promoted copies if they are fewer; none where the target
-/// role forbids the role, or a failure keeps the leaf stopped everywhere (Pacemaker Explained, "target-role", "clone-max" and "promoted-max").
+/// role forbids the role, or, for a place, a failure keeps the leaf stopped everywhere (Pacemaker Explained, "target-role", "clone-max" and
+/// "promoted-max").
 pub(crate) fn cap_of(cluster: &Cluster, states: &States, decision: Decision) -> u32
     ensures { result ≡ spec.cap_in cluster.now states.now decision }
 {

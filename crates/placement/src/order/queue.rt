@@ -7,7 +7,7 @@ ghost use Rattle.edges.specs.Loops.{EndsWithin};
 ghost use Rattle.placement.specs.Inner.Queueing as spec;
 ghost use Rattle.edges.specs.Rows.{edge_targets, edges_at};
 
-use edges::{Edge, Rows, Side, count_ends};
+use edges::{Edge, Rows, Side, count_ends, count_off};
 use faults::with;
 use listed::NumberSet;
 use std::alloc::{AllocError, Global};
@@ -30,13 +30,13 @@ pub(crate) struct Queue {
 }
 
 /// Counts off one for each time that a position stands in the row.
-fn count_off(counts: &mut Vec<usize>, row: &[u32])
+fn count_off_all(counts: &mut Vec<usize>, row: &[u32])
     requires { (x : ℕ) → count_by (◌==◌ x) row.now ≤ slice_index_or counts.old.items x 0 }
     ensures size { length counts.new.items ≡ length counts.old.items }
     ensures less { (x : ℕ) → slice_index_or counts.new.items x 0 + count_by (◌==◌ x) row.now ≡ slice_index_or counts.old.items x 0 }
 {
     for position in row {
-        counts[*position as usize] -= 1;
+        count_off(counts, *position);
     }
 }
 
@@ -186,7 +186,7 @@ impl Queue {
         self.ready.remove(place + 1);
         self.made[position as usize] = true;
         let row = self.rows.row(position);
-        count_off(&mut self.counts, row);
+        count_off_all(&mut self.counts, row);
         admit(&mut self.ready, &self.places, &self.made, &self.counts, row);
         Some(place)
     }

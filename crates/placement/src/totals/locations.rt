@@ -17,7 +17,7 @@ use std::alloc::Global;
 fn rule_holds(cluster: &Cluster, rule: &RuleLocation, node: NodeId, moment: u64) -> bool
     ensures { result ≡ spec.rule_holds_by cluster.now moment rule.now node }
 {
-    match cluster.nodes.as_slice().get(node as usize) {
+    match cluster.node(node) {
         Some(found) => holds(
             &rule.rule,
             found.name.bytes(),

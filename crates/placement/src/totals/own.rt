@@ -41,7 +41,7 @@ pub fn is_banned(cluster: &Cluster, states: &States, leaf: LeafId, node: NodeId)
 pub fn stickiness_of(cluster: &Cluster, leaf: LeafId) -> Score
     ensures { result ≡ spec.stickiness_of cluster.now leaf }
 {
-    match cluster.leaves.as_slice().get(leaf as usize) {
+    match cluster.leaf(leaf) {
         Some(found) => found.stickiness,
         None => Score { points: 0 },
     }

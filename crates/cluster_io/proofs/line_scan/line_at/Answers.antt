@@ -1,6 +1,6 @@
 use Rattle.std.proofs.Common.{◌≡◌, ℕ, ◌+◌, nat_lt, not, ◌&&◌, ◌||◌, List, length, arith, ap, sym, subst}
 use Rattle.crm_lex.specs.RawLines.{ends_in_backslash, begins_comment}
-use Rattle.cluster_io.specs.Scanning.{Looked}
+use Rattle.cluster_io.specs.Inner.Scanning.{Looked}
 use Rattle.cluster_io.proofs.Scans.{at_feed_too_long, at_feed_too_large, at_feed_line, at_feed_next}
 use Rattle.cluster_io.proofs.line_scan.line_at.Goals as goal
 

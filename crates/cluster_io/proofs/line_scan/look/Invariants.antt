@@ -1,5 +1,5 @@
 use Rattle.std.proofs.Common.{◌-◌, ◌≤◌, length}
-use Rattle.cluster_io.specs.Scanning.{Looked}
+use Rattle.cluster_io.specs.Inner.Scanning.{Looked}
 use Rattle.cluster_io.proofs.line_scan.look.Given as goal
 
 abbrev pub invariant-loop-feed : goal.invariant-loop-feed

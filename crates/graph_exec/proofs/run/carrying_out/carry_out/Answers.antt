@@ -36,19 +36,19 @@ closed_in g c =
 
 pub returns-in-Go-clause-closes : goal.returns-in-Go-clause-closes
 returns-in-Go-clause-closes g c =
-    closes _ _ _ _ _ c.requires.fresh _ _ _ _ _ _ _ (closed_in g (goal.at.returns-in-Go-clause-closes g c).After-closed) _ _ (g.met.V.Watcher.from_before _ _ _) (c.in-Go.ensures.follows refl) _ c.into_parts.ensures.journal
+    closes _ _ _ _ _ c.requires.fresh _ _ _ _ _ _ _ (closed_in g (goal.at.returns-in-Go-clause-closes g c).After-closed) _ _ (g.met.V.Watcher.from_before _ _ _) (c.in-Go.ensures.follows refl) _ c.into_parts-journal.ensures.journal
 
 pub returns-in-Go-clause-at_rest : goal.returns-in-Go-clause-at_rest
 returns-in-Go-clause-at_rest g c =
     let h = closed_in g (goal.at.returns-in-Go-clause-at_rest g c).After-closed in
-    leaves_rest _ _ _ _ _ h.went c.requires.planned h.rests _ c.into_parts.ensures.journal
+    leaves_rest _ _ _ _ _ h.went c.requires.planned h.rests _ c.into_parts-journal.ensures.journal
 
 pub returns-in-Go-clause-graph : goal.returns-in-Go-clause-graph
-returns-in-Go-clause-graph g c = c.into_parts.ensures.graph ∙ ap (λ (r : ExecutorOf). r.graph) (closed_in g (goal.at.returns-in-Go-clause-graph g c).After-closed).went.same
+returns-in-Go-clause-graph g c = c.into_parts-journal.ensures.graph ∙ ap (λ (r : ExecutorOf). r.graph) (closed_in g (goal.at.returns-in-Go-clause-graph g c).After-closed).went.same
 
 pub returns-in-Go-clause-agrees : goal.returns-in-Go-clause-agrees
 returns-in-Go-clause-agrees g c h =
-    agrees_left g (goal.at.returns-in-Go-clause-agrees g c).After-run_watched (stays_there _ _ _ _ _ (closed_in g (goal.at.returns-in-Go-clause-agrees g c).After-closed).went) h _ (ap (λ (x : KnownJournalOf). x.events) c.into_parts.ensures.journal)
+    agrees_left g (goal.at.returns-in-Go-clause-agrees g c).After-run_watched (stays_there _ _ _ _ _ (closed_in g (goal.at.returns-in-Go-clause-agrees g c).After-closed).went) h _ (ap (λ (x : KnownJournalOf). x.events) c.into_parts-journal.ensures.journal)
 
 pub returns-in-Go-clause-answer : goal.returns-in-Go-clause-answer
 returns-in-Go-clause-answer g c aborted = c.run_watched.ensures.aborted.given (rw c.requires.fresh refl) ((closed_in g (goal.at.returns-in-Go-clause-answer g c).After-closed).aborted ∙ ap not aborted)
@@ -114,7 +114,7 @@ pub returns-in-Go-clause-questions : goal.returns-in-Go-clause-questions
 returns-in-Go-clause-questions g c =
     let closed = (goal.at.returns-in-Go-clause-questions g c).After-closed in
     asks_behind c.args.executor c.run_watched.new.executor (planned_still c.args.executor c.run_watched.new.executor (closed_in g closed).went.same) c.requires.fresh _ _ _ (asks_closed g closed) _
-    (ap (λ (x : KnownJournalOf). x.events) c.into_parts.ensures.journal)
+    (ap (λ (x : KnownJournalOf). x.events) c.into_parts-journal.ensures.journal)
 
 pub returns-in-Stop-clause-questions_at_end : goal.returns-in-Stop-clause-questions_at_end
 returns-in-Stop-clause-questions_at_end g c =
@@ -155,7 +155,7 @@ pub returns-in-Go-clause-shown : goal.returns-in-Go-clause-shown
 returns-in-Go-clause-shown g c h =
     let closed = closed_in g (goal.at.returns-in-Go-clause-shown g c).After-closed in
     let all = (rw closed.heard at c.run_watched.ensures.shown) (shown_first (g.V.Watcher.shown c.args.watcher.now heard.Go) c.args.executor c.requires.planned.planned.at_rest.1 c.requires.fresh h) in
-    shown_closed c.args.executor c.run_watched.new.executor closed.went.same _ (ap (λ (x : KnownJournalOf). x.events) c.into_parts.ensures.journal)
+    shown_closed c.args.executor c.run_watched.new.executor closed.went.same _ (ap (λ (x : KnownJournalOf). x.events) c.into_parts-journal.ensures.journal)
     (g.V.Watcher.shown c.closed.new.self heard.Go) (c.in-Go.ensures.shown _ _ _ _ all.shown_now)
 
 pub returns-in-Stop-clause-shown_at_end : goal.returns-in-Stop-clause-shown_at_end

@@ -27,12 +27,12 @@ returns-in-Stop-clause-shown_at_end g c h = rw c.into_journal.ensures (record { 
 
 pub returns-in-Go-clause-goes_on : goal.returns-in-Go-clause-goes_on
 returns-in-Go-clause-goes_on g c =
-    is_taken _ _ _ c.args.journal _ _ _ _ _ c.in-Ok.answer c.in-Ok.ensures.answered.said _ c.in-Ok.ensures.answered.took
+    is_taken _ _ _ c.args.journal _ _ _ _ _ c.in-Ok.taken.answer c.in-Ok.ensures.answered.said _ c.in-Ok.ensures.answered.took
     (g.met.V.Watcher.from_before _ _ _ [] _ (c.in_default.ensures.follows refl) (c.in-Go.ensures.follows refl))
 
 pub returns-in-Stop-taken-clause-ends : goal.returns-in-Stop-taken-clause-ends
 returns-in-Stop-taken-clause-ends g c =
-    inl (is_stopped _ _ _ c.args.journal _ _ _ _ (g.V.Watcher.follows c.args.watcher.now c.taken.new.self) c.in-Ok.answer c.in-Ok.ensures.answered.said _ c.in-Ok.ensures.answered.took _
+    inl (is_stopped _ _ _ c.args.journal _ _ _ _ (g.V.Watcher.follows c.args.watcher.now c.taken.new.self) c.in-Ok.taken.answer c.in-Ok.ensures.answered.said _ c.in-Ok.ensures.answered.took _
     (g.met.V.Watcher.stopped_later _ _ _ [] _ _ (c.in_default.ensures.follows refl) (c.in-Stop-taken.ensures.stopped refl)) _ c.into_journal-in-Stop-taken.ensures)
 
 pub returns-in-Stop-taken-clause-agrees_at_end : goal.returns-in-Stop-taken-clause-agrees_at_end
@@ -63,11 +63,11 @@ pub returns-in-Stop-clause-questions_at_end : goal.returns-in-Stop-clause-questi
 returns-in-Stop-clause-questions_at_end g c = rw c.into_journal.ensures (asks_nothing _ _)
 
 pub returns-in-Go-clause-questions : goal.returns-in-Go-clause-questions
-returns-in-Go-clause-questions g c = asks_answered c.args.journal _ _ c.in-Ok.ensures.asked c.in-Ok.answer _ c.in-Ok.ensures.answered.took
+returns-in-Go-clause-questions g c = asks_answered c.args.journal _ _ c.in-Ok.ensures.asked c.in-Ok.taken.answer _ c.in-Ok.ensures.answered.took
 
 pub returns-in-Stop-taken-clause-questions_at_end : goal.returns-in-Stop-taken-clause-questions_at_end
 returns-in-Stop-taken-clause-questions_at_end g c =
-    rw c.into_journal-in-Stop-taken.ensures (asks_answered c.args.journal _ _ c.in-Ok.ensures.asked c.in-Ok.answer _ c.in-Ok.ensures.answered.took)
+    rw c.into_journal-in-Stop-taken.ensures (asks_answered c.args.journal _ _ c.in-Ok.ensures.asked c.in-Ok.taken.answer _ c.in-Ok.ensures.answered.took)
 
 pub returns-in-Err-clause-questions_at_end : goal.returns-in-Err-clause-questions_at_end
 returns-in-Err-clause-questions_at_end g c = asks_unanswered c.args.journal _ _ c.in-Err.ensures.asked _ _ _ _ c.in-Err.end c.in-Err.ensures.unanswered
@@ -76,13 +76,13 @@ returns-in-Err-clause-questions_at_end g c = asks_unanswered c.args.journal _ _ 
 
 pub returns-in-Go-clause-shown : goal.returns-in-Go-clause-shown
 returns-in-Go-clause-shown g c h =
-    shown_answered (g.V.Watcher.shown c.wait_for.new.watcher heard.Go) (g.V.Watcher.shown c.taken.new.self heard.Go) c.args.journal _ c.in-Ok.answer c.in-Ok.ensures.answered.took c.requires.resting c.in-Go.ensures.shown (c.in_default.ensures.shown _ h)
+    shown_answered (g.V.Watcher.shown c.wait_for.new.watcher heard.Go) (g.V.Watcher.shown c.taken.new.self heard.Go) c.args.journal _ c.in-Ok.taken.answer c.in-Ok.ensures.answered.took c.requires.resting c.in-Go.ensures.shown (c.in_default.ensures.shown _ h)
 
 pub returns-in-Stop-taken-clause-shown_at_end : goal.returns-in-Stop-taken-clause-shown_at_end
 returns-in-Stop-taken-clause-shown_at_end g c h =
     rw c.into_journal-in-Stop-taken.ensures (record {
       plan = None;
-      shown_last = shown_answered (g.V.Watcher.shown c.wait_for.new.watcher heard.Go) (g.V.Watcher.shown c.taken.new.self heard.Stop) c.args.journal _ c.in-Ok.answer c.in-Ok.ensures.answered.took c.requires.resting c.in-Stop-taken.ensures.shown
+      shown_last = shown_answered (g.V.Watcher.shown c.wait_for.new.watcher heard.Go) (g.V.Watcher.shown c.taken.new.self heard.Stop) c.args.journal _ c.in-Ok.taken.answer c.in-Ok.ensures.answered.took c.requires.resting c.in-Stop-taken.ensures.shown
           (c.in_default.ensures.shown _ h);
     })
 

@@ -36,7 +36,7 @@ returns-in-Ok-ask_idle-clause-goes_on g c es first keeps =
     let ends = c.count-ends_at.ensures ∙ ap (λ (x : KnownJournalOf). length x.events) c.into_known-later.ensures in
     goes_on_answered c.args.journal c.in-Ok.planned c.in-Ok.ensures.ready _ _ es first _ _ _ keeps _ _ _ c.count-begins_at.ensures ends _ c.passed_end.result refl _ c.in-Ok-keep_behind.ensures.ok
     _ made.steps _ made.source.over (λ steady open_still. (made.said steady).to_end open_still tt) (c.passed_end.ensures ∙ ap (λ (x : End). passed_end x) c.in-Complete.is) made.end _
-    c.into_known-later.ensures _ _ (λ steady h. c.ask_idle.ensures.source.over (made.source.steady ∙ steady) h) c.in-Ok-ask_idle._answer c.in-Ok-ask_idle.next (rw made.source.whole at c.in-Ok-ask_idle.ensures.answered)
+    c.into_known-later.ensures _ _ (λ steady h. c.ask_idle.ensures.source.over (made.source.steady ∙ steady) h) c.in-Ok-ask_idle.taken.answer c.in-Ok-ask_idle.taken.journal (rw made.source.whole at c.in-Ok-ask_idle.ensures.answered)
 
 pub returns-in-Ok-ask_idle-clause-agrees : goal.returns-in-Ok-ask_idle-clause-agrees
 returns-in-Ok-ask_idle-clause-agrees g c h =
@@ -138,7 +138,7 @@ returns-in-Ok-ask_idle-clause-questions g c =
     let made = c.in-Complete.ensures in
     asks_then _ _ _ _ _ _ _
     (asks_there c.args.journal c.in-Ok.planned c.in-Ok.ensures.ready _ _ _ _ made.steps _ _ _ made.questions _ (ap (λ (x : KnownJournalOf). x.events) c.into_known-later.ensures))
-    (asks_answered c.into_known-later.result _ _ c.in-Ok-ask_idle.ensures.asked c.in-Ok-ask_idle._answer _ c.in-Ok-ask_idle.ensures.answered.took)
+    (asks_answered c.into_known-later.result _ _ c.in-Ok-ask_idle.ensures.asked c.in-Ok-ask_idle.taken.answer _ c.in-Ok-ask_idle.ensures.answered.took)
 
 pub returns-in-Err-clause-questions_at_end : goal.returns-in-Err-clause-questions_at_end
 returns-in-Err-clause-questions_at_end g c =

@@ -17,7 +17,7 @@ pub returns-clause-ready : goal.returns-clause-ready
 returns-clause-ready c =
     let serves = rw c.cluster.ensures at c.in_ok-plan.ensures.serves in
     let out = serves c.args.journal.events c.args.journal.promotions (c.in_ok-plan.ensures.states ∙ c.in_ok-states.ensures) in
-    is_ready c.args.journal (record { rights = c.in_ok-plan.plan.rights; placed = c.in_ok-plan.plan.placed; executor = c.in-Ok.executor }) c.in_ok-plan.plan.graph
+    is_ready c.args.journal (record { states = c.in_ok-plan.plan.states; rights = c.in_ok-plan.plan.rights; placed = c.in_ok-plan.plan.placed; executor = c.in-Ok.executor }) c.in_ok-plan.plan.graph
     c.requires.valid c.requires.at_rest c.in-Ok.ensures.ok out
 
 pub returns-clause-serves : goal.returns-clause-serves

@@ -39,14 +39,14 @@ returns-in-Err-clause-ends g c =
 
 -- it was aborted
 
-pub returns-then-not-complete-clause-goes_on : goal.returns-then-not-complete-clause-goes_on
-returns-then-not-complete-clause-goes_on g c =
+pub returns-then-not-closed-clause-goes_on : goal.returns-then-not-closed-clause-goes_on
+returns-then-not-closed-clause-goes_on g c =
     let j = c.args.journal in
     let p = c.in-Ok.planned in
     let ready = c.in-Ok.ensures.ready in
     let begun = came_begun j p ready _ _ _ _ _ _ (c.in_default-planned.ensures.follows refl _ c.requires.lines) in
     comes_behind _ _ _ (g.met.V.Watcher.from_before _ _ _) _ _ _ _ _ _ _ _ begun _ _ (same_cluster j p ready) (same_promotions j p ready) _ _ _ c.carry_out-carried.ensures.source.over
-    (rw (c.in-Ok-with.ensures.1, c.if-not-complete.true) at c.carry_out-carried.ensures.closes)
+    (rw (c.in-Ok-with.ensures.1, c.if-not-closed.true) at c.carry_out-carried.ensures.closes)
 
 -- it is complete
 
@@ -60,7 +60,7 @@ returns-in-Ok-with-2-clause-goes_on g c =
     let ready = c.in-Ok.ensures.ready in
     let begun = came_begun j p ready _ _ _ _ _ _ (c.in_default-planned.ensures.follows refl _ c.requires.lines) in
     let closed = comes_behind _ _ _ (g.met.V.Watcher.from_before _ _ _) _ _ _ _ _ _ _ _ begun _ _ (same_cluster j p ready) (same_promotions j p ready) _ _ _ c.carry_out-carried.ensures.source.over
-    (rw (c.in-Ok-with.ensures.1, c.if-not-complete.false) at c.carry_out-carried.ensures.closes) in
+    (rw (c.in-Ok-with.ensures.1, c.if-not-closed.false) at c.carry_out-carried.ensures.closes) in
     comes_behind _ _ _ (g.met.V.Watcher.from_before _ _ _) _ _ _ _ _ _ _ _ closed.came _ _ closed.cluster_stays closed.promotions_stay _ _ _
     (λ steady h. c.take_idle-taken.ensures.source.over (c.carry_out-carried.ensures.source.steady ∙ steady) h)
     (rw (c.carry_out-carried.ensures.source.whole, c.carry_out-carried.ensures.source.steady) at (rw c.in-Ok-with-2.ensures.1 at c.take_idle-taken.ensures.goes_on))
@@ -72,7 +72,7 @@ returns-in-Err-with-clause-ends g c =
     let ready = c.in-Ok.ensures.ready in
     let begun = came_begun j p ready _ _ _ _ _ _ (c.in_default-planned.ensures.follows refl _ c.requires.lines) in
     let closed = comes_behind _ _ _ (g.met.V.Watcher.from_before _ _ _) _ _ _ _ _ _ _ _ begun _ _ (same_cluster j p ready) (same_promotions j p ready) _ _ _ c.carry_out-carried.ensures.source.over
-    (rw (c.in-Ok-with.ensures.1, c.if-not-complete.false) at c.carry_out-carried.ensures.closes) in
+    (rw (c.in-Ok-with.ensures.1, c.if-not-closed.false) at c.carry_out-carried.ensures.closes) in
     ends_behind _ _ _ (g.met.V.Watcher.from_before _ _ _) _ _ _ _ _ _ _ _ closed.came _ _ closed.cluster_stays closed.promotions_stay _ _ _ (g.met.V.Watcher.stopped_later _ _ _) _ _ c.carry_out-carried.ensures.source.over
     (rw (c.carry_out-carried.ensures.source.whole, c.carry_out-carried.ensures.source.steady) at (rw c.in-Err-with.ensures at c.take_idle-taken.ensures.ends))
 
@@ -101,11 +101,11 @@ returns-in-Err-clause-watcher g c =
     watcher_then g.V.Watcher _ _ _ _ (watcher_told g.V.Watcher _ _ heard.Go told.same_lines told.count told.cause)
     (rw c.in-Err.ensures at c.carry_out-carried.ensures.watcher)
 
-pub returns-then-not-complete-clause-source : goal.returns-then-not-complete-clause-source
-returns-then-not-complete-clause-source g c = rw c.in-Ok-with.ensures.1 at c.carry_out-carried.ensures.source
+pub returns-then-not-closed-clause-source : goal.returns-then-not-closed-clause-source
+returns-then-not-closed-clause-source g c = rw c.in-Ok-with.ensures.1 at c.carry_out-carried.ensures.source
 
-pub returns-then-not-complete-clause-watcher : goal.returns-then-not-complete-clause-watcher
-returns-then-not-complete-clause-watcher g c =
+pub returns-then-not-closed-clause-watcher : goal.returns-then-not-closed-clause-watcher
+returns-then-not-closed-clause-watcher g c =
     let told = c.in_default-planned.ensures in
     watcher_then g.V.Watcher _ _ _ _ (watcher_told g.V.Watcher _ _ heard.Go told.same_lines told.count told.cause)
     (rw c.in-Ok-with.ensures.1 at c.carry_out-carried.ensures.watcher)
@@ -138,8 +138,8 @@ returns-in-Err-with-clause-watcher g c =
 
 -- an answer was given: it aborted the transition, or came behind it
 
-pub returns-then-not-complete-clause-answer : goal.returns-then-not-complete-clause-answer
-returns-then-not-complete-clause-answer g c = (rw c.in-Ok-with.ensures.1 at c.carry_out-carried.ensures.answer) c.if-not-complete.true
+pub returns-then-not-closed-clause-answer : goal.returns-then-not-closed-clause-answer
+returns-then-not-closed-clause-answer g c = (rw c.in-Ok-with.ensures.1 at c.carry_out-carried.ensures.answer) c.if-not-closed.true
 
 pub returns-in-Ok-with-2-clause-answer : goal.returns-in-Ok-with-2-clause-answer
 returns-in-Ok-with-2-clause-answer g c =
@@ -155,8 +155,8 @@ returns-in-Err-clause-questions_at_end g c =
     asks_carried_end c.args.journal c.in-Ok.planned c.in-Ok.ensures.ready (g.S.Outcomes.asked c.args.outcomes.now) (g.S.Outcomes.asked c.carry_out-carried.new.outcomes) c.in-Err.ended
     (rw c.in-Err.ensures at c.carry_out-carried.ensures.questions_at_end)
 
-pub returns-then-not-complete-clause-questions : goal.returns-then-not-complete-clause-questions
-returns-then-not-complete-clause-questions g c =
+pub returns-then-not-closed-clause-questions : goal.returns-then-not-closed-clause-questions
+returns-then-not-closed-clause-questions g c =
     asks_carried c.args.journal c.in-Ok.planned c.in-Ok.ensures.ready _ _ _ _
     (rw c.in-Ok-with.ensures.1 at c.carry_out-carried.ensures.questions)
 
@@ -174,17 +174,17 @@ returns-in-Err-with-clause-questions_at_end g c =
 
 -- the plan serves again
 
-pub returns-then-not-complete-clause-serves : goal.returns-then-not-complete-clause-serves
-returns-then-not-complete-clause-serves g c =
+pub returns-then-not-closed-clause-serves : goal.returns-then-not-closed-clause-serves
+returns-then-not-closed-clause-serves g c =
     let p = c.in-Ok.planned in
     rw c.in-Ok-with.ensures.0
-    (serves_again _ (record { states = c.in-Ok.states; rights = p.rights; placed = p.placed; graph = p.executor.graph }) _ (rw c.in-Ok-with.ensures.1 at c.carry_out-carried.ensures.graph) c.in-Ok.ensures.serves)
+    (serves_again _ (record { states = p.states; rights = p.rights; placed = p.placed; graph = p.executor.graph }) _ (rw c.in-Ok-with.ensures.1 at c.carry_out-carried.ensures.graph) c.in-Ok.ensures.serves)
 
 pub returns-in-Ok-with-2-clause-serves : goal.returns-in-Ok-with-2-clause-serves
 returns-in-Ok-with-2-clause-serves g c =
     let p = c.in-Ok.planned in
     rw (c.in-Ok-with-2.ensures.0, c.in-Ok-with.ensures.0)
-    (serves_again _ (record { states = c.in-Ok.states; rights = p.rights; placed = p.placed; graph = p.executor.graph }) _ (rw c.in-Ok-with.ensures.1 at c.carry_out-carried.ensures.graph) c.in-Ok.ensures.serves)
+    (serves_again _ (record { states = p.states; rights = p.rights; placed = p.placed; graph = p.executor.graph }) _ (rw c.in-Ok-with.ensures.1 at c.carry_out-carried.ensures.graph) c.in-Ok.ensures.serves)
 
 -- what the watcher has been shown
 
@@ -199,8 +199,8 @@ returns-in-Err-clause-shown_at_end g c h =
     shown_end c.args.journal c.in-Ok.planned c.in-Ok.ensures.ready (g.V.Watcher.shown c.carry_out-carried.new.watcher) _
     ((rw c.in-Err.ensures at c.carry_out-carried.ensures.shown_at_end) planned)
 
-pub returns-then-not-complete-clause-shown : goal.returns-then-not-complete-clause-shown
-returns-then-not-complete-clause-shown g c h =
+pub returns-then-not-closed-clause-shown : goal.returns-then-not-closed-clause-shown
+returns-then-not-closed-clause-shown g c h =
     let planned = shown_planned c.args.journal c.in-Ok.planned c.in-Ok.ensures.ready (g.V.Watcher.shown c.args.watcher.now heard.Go) (g.V.Watcher.shown c.planned.new.self heard.Go) c.in_default-planned.ensures.shown h in
     shown_there c.args.journal c.in-Ok.planned c.in-Ok.ensures.ready (g.V.Watcher.shown c.carry_out-carried.new.watcher heard.Go) _
     ((rw c.in-Ok-with.ensures.1 at c.carry_out-carried.ensures.shown) planned)

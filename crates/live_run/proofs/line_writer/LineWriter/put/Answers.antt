@@ -9,3 +9,8 @@ pub returns-clause-line : goal.returns-clause-line
 returns-clause-line g c =
     let text : c.as_slice.result.now ≡ run_line (writer_cluster c.args.self.now) (lent_line c.args.line.now) = c.as_slice.ensures.text ∙ c.write_line.ensures.text in
     puts_one _ _ _ refl (search rules) (lent_line c.args.line.now) c.push.result (rw text at c.push.ensures.text) c.push.ensures.bears
+
+pub returns-clause-whole : goal.returns-clause-whole
+returns-clause-whole g c =
+    let text : c.as_slice.result.now ≡ run_line (writer_cluster c.args.self.now) (lent_line c.args.line.now) = c.as_slice.ensures.text ∙ c.write_line.ensures.text in
+    rw text at c.push.ensures.whole

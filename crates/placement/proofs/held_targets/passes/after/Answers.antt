@@ -1,11 +1,13 @@
-use Rattle.std.proofs.Common.{arith, ◌≡◌, ℕ, [], ◌∷◌, cond, Bool, true, false, refl, sym, ◌∙◌, ap}
+use Rattle.std.proofs.Common.{arith, ◌≡◌, ◌<◌, ◌+◌, ◌&&◌, ℕ, [], ◌∷◌, cond, not, Bool, true, false, refl, sym, subst, ◌∙◌, ap, inl, inr}
+use Rattle.std.proofs.lemmas.Bool.{cases_lt}
 use Rattle.cluster_types.specs.declared.leaf.Role.{Role}
+use Rattle.cluster_types.specs.declared.placement.Table.{Table}
 use Rattle.cluster_types.specs.Tables.{holds_role, targets_of}
 use Rattle.lemmas.proofs.Members.{at_head}
 use Rattle.plan_laws.proofs.MadeOnes.{never_both}
-use Rattle.placement.specs.Inner.Taking.{none_yet, one_more, takes}
+use Rattle.placement.specs.Inner.Taking.{has_primary_where, none_yet, one_more, takes}
 use Rattle.placement.proofs.TakenSteps.{still_chosen}
-use Rattle.placement.proofs.TakenTests.{takes_now}
+use Rattle.placement.proofs.TakenTests.{takes_first, takes_now}
 use Rattle.placement.proofs.held_targets.passes.after.Goals as goal
 
 pub loop-node-init : goal.loop-node-init
@@ -45,4 +47,29 @@ loop-node-preserved c =
       unchanged = λ e. absurd (changes e);
       same = λ e. absurd (changes e);
       settled = λ e n lt. absurd (changes e);
+    }
+
+pub loop-node-preserved-then-not-is_taken : goal.loop-node-preserved-then-not-is_taken
+loop-node-preserved-then-not-is_taken c =
+    let first = targets_of c.args.left.table in
+    let nodes = c.args.left.table.nodes in
+    let rule = c.args.rule in
+    let anywhere = c.has_some-anywhere.result in
+    let node = c.loop-node.node in
+    let inv = c.loop-node.invariant in
+    let here : c.loop-node.left.changed ≡ false → takes nodes first rule node ≡ false = λ e.
+    takes_first nodes first rule anywhere c.has_some-anywhere.ensures node
+    ∙ (ap (λ (t : Table). holds_role (targets_of t) rule.dependent rule.dependent_role node && not (has_primary_where (targets_of t) rule anywhere node))
+    (sym (inv.same e)) ∙ (sym c.is_taken.ensures ∙ c.if-not-is_taken.true)) in
+    record {
+      nodes = inv.nodes;
+      size = inv.size;
+      taken = inv.taken;
+      fewer = inv.fewer;
+      unchanged = inv.unchanged;
+      same = inv.same;
+      settled = λ e n lt. elim (cases_lt n node) [
+        | inl before ↦ inv.settled e n before
+        | inr behind ↦ (let same : n ≡ node = omega arith in subst (λ (m : ℕ). takes nodes first rule m ≡ false) (sym same) (here e))
+      ];
     }

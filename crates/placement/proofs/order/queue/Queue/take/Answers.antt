@@ -25,8 +25,8 @@ row-row-requires c =
     let read = get_or_read q.order.items p c.index-position.result.now low c.index-position.ensures 0 in
     subst (λ x. x < length q.rows) (sym read) (in-rows c.requires.0 c.requires.1 q c.requires.2 p c.in_ok-place.ensures)
 
-pub count_off-requires : goal.count_off-requires
-count_off-requires c =
+pub count_off_all-requires : goal.count_off_all-requires
+count_off_all-requires c =
     let q = c.args.self.now in
     let p = c.in_ok-place.place in
     let low = in-order c.requires.0 c.requires.1 q c.requires.2 p c.in_ok-place.ensures in
@@ -60,7 +60,7 @@ admit-requires-clause-counts c = λ x among.
     c.row-row.ensures ∙ (ap (λ (x : ℕ). slice_index_or q.rows x []) read ∙ row-is c.requires.0 c.requires.1 q c.requires.2 p c.in_ok-place.ensures) in
     let under = row-low c.requires.0 c.requires.1 q c.requires.2 p c.in_ok-place.ensures x (subst (λ (xs : List ℕ). Contains xs x) row among) in
     let size = c.requires.2.waits.counts_size in
-    let long : length c.deref-3.result.now ≡ length q.counts.items = ap length c.deref-3.ensures.value ∙ c.count_off.ensures.size in
+    let long : length c.deref-3.result.now ≡ length q.counts.items = ap length c.deref-3.ensures.value ∙ c.count_off_all.ensures.size in
     omega (arith, under, size, long)
 
 pub admit-requires-clause-places : goal.admit-requires-clause-places
@@ -81,14 +81,14 @@ returns-clause-queue c = λ edges positions is.
     let x = slice_index_or q.order.items p 0 in
     let row : c.row-row.result.now ≡ edge_targets_of edges x =
     c.row-row.ensures ∙ (ap (λ (x : ℕ). slice_index_or q.rows x []) read ∙ row-is edges positions q is p first) in
-    let less : (y : ℕ) → slice_index_or c.count_off.new.counts.items y 0 + count_by (◌==◌ y) (edge_targets_of edges x) ≡ slice_index_or q.counts.items y 0 =
-    subst (λ (xs : List ℕ). (y : ℕ) → slice_index_or c.count_off.new.counts.items y 0 + count_by (◌==◌ y) xs ≡ slice_index_or q.counts.items y 0) row c.count_off.ensures.less in
+    let less : (y : ℕ) → slice_index_or c.count_off_all.new.counts.items y 0 + count_by (◌==◌ y) (edge_targets_of edges x) ≡ slice_index_or q.counts.items y 0 =
+    subst (λ (xs : List ℕ). (y : ℕ) → slice_index_or c.count_off_all.new.counts.items y 0 + count_by (◌==◌ y) xs ≡ slice_index_or q.counts.items y 0) row c.count_off_all.ensures.less in
     let back : p + 1 - 1 ≡ p = omega arith in
     let removed : c.remove.new.self ≡ slice_set q.ready p false = c.remove.ensures ∙ ap (λ k. slice_set q.ready k false) back in
     let made : c.deref-2.result.now ≡ slice_set q.made.items x true = c.deref-2.ensures.value ∙ ap (λ k. slice_set q.made.items k true) read in
     let made_in = in-made edges positions q is p first in
     let open_still = open-yet edges positions q is p first in
-    let counts = c.count_off.new.counts.items in
+    let counts = c.count_off_all.new.counts.items in
     let test : List Bool → List ℕ → List (Option ℕ) → ℕ → ℕ → Bool = λ ms cs ps k y. is_free ms cs y && has_place ps y k in
     let ready : (k : ℕ) → slice_index_or c.admit.new.ready k false
     ≡ (slice_index_or (slice_set q.ready p false) k false || list_any (test (slice_set q.made.items x true) counts q.places.items k) (edge_targets_of edges x)) = λ k.
@@ -109,7 +109,7 @@ returns-clause-queue c = λ edges positions is.
       waits = subst (λ k. Waits edges positions q.order.items q.places.items (slice_set q.made.items k true) counts c.admit.new.ready) (sym read) (record {
         few = is.waits.few;
         made_size = length-set q.made.items x true ∙ is.waits.made_size;
-        counts_size = c.count_off.ensures.size ∙ is.waits.counts_size;
+        counts_size = c.count_off_all.ensures.size ∙ is.waits.counts_size;
         ready_size = c.admit.ensures.size ∙ (ap length removed ∙ (length-set q.ready p false ∙ is.waits.ready_size));
         counted = counted;
         readied = readied;

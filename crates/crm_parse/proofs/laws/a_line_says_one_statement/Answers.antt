@@ -1,5 +1,0 @@
-use Rattle.crm_parse.proofs.Grammar.LineRelated.{one-statement}
-use Rattle.crm_parse.proofs.laws.a_line_says_one_statement.Goals as goal
-
-pub returns : goal.returns
-returns c = λ before words one other s t. one-statement before words one other s t
