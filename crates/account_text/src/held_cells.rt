@@ -73,8 +73,8 @@ fn misses_first(
     ensures { result ≡ holders.misses_first cluster.now (targets_of targets.now) decision node order.now }
 {
     order.is_mandatory()
-        && order.first_op.is_up()
-        && order.then_op.is_up()
+        && order.first_op.is_giving()
+        && order.then_op.is_giving()
         && decision == Decision::of_role(order.then_leaf, order.then_op.role_given())
         && !has_first(cluster, targets, order, node)
 }

@@ -3,7 +3,7 @@
 ghost use Rattle.std.specs.Prelude.{◌≡◌, ◌<◌, length, IfOk};
 ghost use Rattle.cluster_types.specs.Valid.{IsValid};
 ghost use Rattle.placement.specs.Inner.LendingRows as lending;
-ghost use Rattle.placement.specs.Ties.{AreTies, tied_within};
+ghost use Rattle.placement.specs.Ties.{AreTies, tied_leaves};
 ghost use Rattle.account_text.specs.Inner.JoinedLeaves as spec;
 
 use cluster_types::LeafId;
@@ -57,7 +57,7 @@ fn lend(
 
 /// The leaf with the lenders that join it, tried in their order, where the leaves with a mark lend.
 fn join_all(alloc: Global, own: &OwnRows, marks: &[bool], leaf: LeafId) -> Result<Joined, NoMemory>
-    requires marks { marks.now ≡ tied_within own.now.cluster.now (length own.now.cluster.now.leaves) leaf }
+    requires marks { marks.now ≡ tied_leaves own.now.cluster.now leaf }
     requires leaf { leaf < length own.now.cluster.now.leaves }
     ensures { IfOk result (λ joined. spec.IsJoined own.now.cluster.now own.now.states.now (lending.all_joined own.now.cluster.now own.now.states.now leaf) joined) }
 {

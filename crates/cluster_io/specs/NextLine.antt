@@ -30,7 +30,7 @@ abbrev pub reader_answer : ℕ → ℕ → List ℕ → LineStep
 reader_answer room longest [] = End
 reader_answer room longest (b ∷ bs) = line_answer room longest (first_line (b ∷ bs))
 
--- these bytes give no answer yet: there is none that all bytes to follow leave as it is
+-- these bytes give no answer yet: whichever answer the reader might give, some bytes to follow would have it give another
 abbrev pub IsUndecided : ℕ → ℕ → List ℕ → Type 0
 IsUndecided room longest held = (step : LineStep) → ((rest : List ℕ) → reader_answer room longest (held ++ rest) ≡ step) → ⊥
 
@@ -38,7 +38,8 @@ IsUndecided room longest held = (step : LineStep) → ((rest : List ℕ) → rea
 abbrev pub has_feed : List ℕ → Bool
 has_feed text = list_any (λ b. b == 10) text
 
--- the first logical line of these physical lines is whole: the last of its own has a line feed and doesn't go on
+-- the first logical line of these physical lines is whole: the last of its own has a line feed and doesn't go on. A line before these may go on into them (the
+-- truth says so)
 abbrev pub is_whole : Bool → List (List ℕ) → Bool
 is_whole continues [] = false
 is_whole continues (line ∷ lines) = if goes_on continues line then is_whole true lines else has_feed line

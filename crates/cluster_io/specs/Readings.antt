@@ -6,18 +6,22 @@ use Rattle.cluster_io.specs.NextLine.{reader_answer, first_line, holds_line, IsU
 use Rattle.cluster_io.specs.declared.line_step.LineStep.{LineStep}
 use Rattle.cluster_io.specs.declared.line_step.LineStep.TheVariants.{Line, End, Failed}
 
--- a reader of lines: the bytes that it took and didn't hand out, the line that its last call handed out, the number of the
--- line that it handed out last, the number of the first line that it holds, how many of the bytes not handed out lie within its
--- limit, how many bytes a line may have without line ends, the answer that it gives from now on, where it gives one, and whether
--- the source has ended
+-- a reader of lines
 pub record Reading : Type 0 where
+  -- the bytes that it took and didn't hand out
   pub held : List ℕ
+  -- the line that its last call handed out, with its line ends, or none; and the number of the line that was handed out last
   pub raw : List ℕ
   pub number : ℕ
+  -- the number of the first line that it holds
   pub next : ℕ
+  -- how many of the bytes not handed out lie within its limit
   pub room : ℕ
+  -- how many bytes a line may have without its line ends
   pub longest : ℕ
+  -- the answer that it gives from now on, where it gives one
   pub stop : Option LineStep
+  -- whether the source has ended
   pub ended : Bool
 
 -- a line is handed out: it is the first logical line of what was held, whatever follows, or the last one at the end of the source
@@ -35,7 +39,7 @@ pub record HandsOut (old new : Reading) (ended : Bool) : Type 0 where
     ended = ended;
   }
 
--- what an answer leaves of what was held. Only a line is handed out, and only of a line that is too long or too large no more is said
+-- what an answer leaves of what was held. Only a line is handed out. Behind a line that is too long or too large the reader stops, and says so from then on
 abbrev pub ReaderIsLeft : LineStep → Reading → Reading → Bool → Type 0
 ReaderIsLeft Line old new ended = HandsOut old new ended
 ReaderIsLeft End old new ended = (new ≡ record old { raw = []; ended = true }) × (old.held ≡ []) × (ended ≡ true)

@@ -4,24 +4,15 @@ use Rattle.std.specs.Prelude.{List, Ok}
 use Rattle.cluster_types.specs.declared.cluster.Cluster.{Cluster}
 use Rattle.cluster_types.specs.Decisions.{NeedsHaveNoLoop}
 use Rattle.cluster_types.specs.Numbers.{StepsHaveNoLoop}
-use Rattle.loops.specs.FirstLoops.{AllJoin, AllOrder}
-use Rattle.loops.proofs.FromValid.{roles_join, words_order}
 use Rattle.loops.proofs.LoopTests.{need_of_none, step_of_none}
 use Rattle.crm_parse.specs.declared.statement.Statement.{Statement}
 use Rattle.cluster_model.specs.declared.expansion.leaves.Leaves.{Leaves}
 use Rattle.cluster_model.specs.Resolution.{resolution_of}
 use Rattle.cluster_model.proofs.Outcome.{resolved-loopless}
-use Rattle.cluster_model.proofs.ResolvedRoles.{colocations, orders}
 
 module _ (leaves : Leaves) (statements : List Statement) (c : Cluster) (r : resolution_of leaves statements ≡ Ok c) where
-  joined : AllJoin c
-  joined col h = let roles = colocations leaves statements c r col h in roles_join c col roles.dependent roles.primary
-
-  ordered : AllOrder c
-  ordered o h = let words = orders leaves statements c r o h in words_order c o words.first words.later
-
   pub needs_without_loop : NeedsHaveNoLoop c
-  needs_without_loop = let l = resolved-loopless leaves statements c r in need_of_none c joined l.needs
+  needs_without_loop = let l = resolved-loopless leaves statements c r in need_of_none c l.needs
 
   pub steps_without_loop : StepsHaveNoLoop c
-  steps_without_loop = let l = resolved-loopless leaves statements c r in step_of_none c ordered l.steps
+  steps_without_loop = let l = resolved-loopless leaves statements c r in step_of_none c l.steps

@@ -42,10 +42,10 @@ not_by_what_applies : IsCutAt one [] true (amid 1 probes begun) (Some (answer.En
 not_by_what_applies h = h.refused refl
 
 -- no end applies while nothing is to be done
-idle_is_cut_by_an_end : AppliesAt one [] true (idle 1 (online [] 1000)) (answer.End 1 0) → ⊥
+idle_is_cut_by_an_end : AppliesAt one (idle 1 (online [] 1000)) (answer.End 1 0) → ⊥
 idle_is_cut_by_an_end h = cc
 
-idle_takes_a_wait : AppliesAt one [] true (idle 1 (online [] 1000)) (answer.Wait 5)
+idle_takes_a_wait : AppliesAt one (idle 1 (online [] 1000)) (answer.Wait 5)
 idle_takes_a_wait = refl
 
 -- a source that has more to say, or may have, isn't silent

@@ -18,7 +18,7 @@ use Rattle.cluster_types.specs.AnswersThatApply.{end_event, is_number_of, monito
 use Rattle.cluster_types.specs.Journals.{is_on, moment_of}
 use Rattle.cluster_types.specs.declared.cluster.Cluster.{Cluster}
 use Rattle.cluster_types.specs.Safety.{is_answered, is_gone, without_gone}
-use Rattle.cluster_types.specs.Steps.{Transition, Goes, IsWaiting, here, one_more, StepsOn, begins, takes, is_silent, ended, answer_events, begins_number, in_flight_by_number, aborts, has_aborted, has_begun, journal, silent_code}
+use Rattle.cluster_types.specs.Steps.{Transition, GoesBySteps, IsWaiting, here, one_more, StepsOn, begins, takes, is_silent, ended, answer_events, begins_number, in_flight_by_number, aborts, has_aborted, has_begun, journal, silent_code}
 use Rattle.cluster_types.proofs.StepLaws.{split, map_all, joined_all, not_begun, begins_nothing}
 
 -- Events without those at their end that are gone.
@@ -205,7 +205,7 @@ module _ (t : Transition) (since : List Event) (keeps : Keeps t since) where
   step-keeps whole _ rest left (takes _ _ given said taken) = bring-keeps taken.waiting (answer_events t since given) (answer-brings t since given)
   step-keeps whole _ rest left (is_silent _ _ k a said ends) = bring-keeps ends.waiting (ended t since k (Code (silent_code a))) (code-brings (moment_of (journal t since)) (silent_code a) (find (is_number_of k) (in_flight_by_number t since)))
 
-pub keeps-on : (t : Transition) (whole : Bool) (since later : List Event) (rest left : Option (List Answer)) → Goes t whole since rest later left
+pub keeps-on : (t : Transition) (whole : Bool) (since later : List Event) (rest left : Option (List Answer)) → GoesBySteps t whole since rest later left
     → Keeps t since → Keeps t later
 keeps-on t whole since _ rest _ (here _ _) keeps = keeps
 keeps-on t whole since after rest left (one_more _ events _ _ middle _ step more) keeps =

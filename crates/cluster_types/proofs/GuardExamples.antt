@@ -260,7 +260,7 @@ steps_of_it = refl
 
 -- an optional order by its start leaves a migration of its first be
 harmless : IsHarmlessOrder chain failed stay 0 (ordered kind.Optional Start Start true)
-harmless = (λ e. inl ((λ f. cc), refl), λ e f. absurd (f refl))
+harmless = record { as_first = λ e. inl ((λ f. cc), refl); as_then = λ e f. absurd (f refl) }
 
 -- a stop of the first alone disturbs it; of one that promotes a demote, a stop and a promote do, and a start doesn't
 stop_disturbs : has_disturbing Start (Stop ∷ []) ≡ true

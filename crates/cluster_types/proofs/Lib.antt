@@ -7,6 +7,7 @@ pub mod MayLaws
 pub mod JournalLaws
 pub mod Paths
 pub mod TableCells
+pub mod LeafReasons
 pub mod LeastSets
 pub mod NumberLaws
 pub mod RisingEdges
@@ -37,6 +38,7 @@ pub mod OpLaws
 pub mod RuleLeaves
 pub mod Operations
 pub mod PrecedesLaws
+pub mod OrderLinks
 pub mod LastSigns
 pub mod SourceLaws
 mod GuardExamples

@@ -78,7 +78,7 @@ first_is_stopped : GetsStepAnywhere (with_order starts_first) on_n1 goes_to_n2 0
 first_is_stopped = (0, omega arith, (Stop, inr ((λ h. let can = can_be_cycled (with_order starts_first) on_n1 goes_to_n2 0 0 h in cc), (0, omega arith, refl))))
 
 harmed_by_its_first : IsHarmlessOrder (with_order starts_first) on_n1 goes_to_n2 1 starts_first → ⊥
-harmed_by_its_first h = h.1 refl (λ e. cc) first_is_stopped
+harmed_by_its_first h = h.as_then refl (λ e. cc) first_is_stopped
 
 not_moved_live : (n m : ℕ) → Migrates (with_order starts_first) on_n1 goes_to_n2 1 n m → ⊥
 not_moved_live n m g = harmed_by_its_first (g.orders starts_first (0, omega arith, refl))
@@ -91,7 +91,7 @@ other_is_stopped : GetsStepAnywhere (with_order in_turn) on_n1 goes_to_n2 0
 other_is_stopped = (0, omega arith, (Stop, inr ((λ h. let can = can_be_cycled (with_order in_turn) on_n1 goes_to_n2 0 0 h in cc), (0, omega arith, refl))))
 
 harmed_in_turn : IsHarmlessOrder (with_order in_turn) on_n1 goes_to_n2 1 in_turn → ⊥
-harmed_in_turn h = elim (h.0 refl) [
+harmed_in_turn h = elim (h.as_first refl) [
   | inl allowed ↦ allowed.0 refl
   | inr undisturbed ↦ undisturbed other_is_stopped
 ]
@@ -104,10 +104,10 @@ s_is_stopped : GetsStepAnywhere both on_n1 goes_to_n2 0
 s_is_stopped = (0, omega arith, (Stop, inr ((λ h. let can = can_be_cycled both on_n1 goes_to_n2 0 0 h in cc), (0, omega arith, refl))))
 
 harmed_by_a_dependent : IsHarmlessColocation both on_n1 goes_to_n2 1 (apart 0 1) → ⊥
-harmed_by_a_dependent h = (h refl).1 refl s_is_stopped
+harmed_by_a_dependent h = h.as_primary refl refl s_is_stopped
 
 harmed_by_a_primary : IsHarmlessColocation both on_n1 goes_to_n2 1 (apart 1 0) → ⊥
-harmed_by_a_primary h = (h refl).0 refl s_is_stopped
+harmed_by_a_primary h = h.as_dependent refl refl s_is_stopped
 
 -- where another node may still run it, it isn't moved live
 may_run_on_the_lost : may_be_running both 0 1 (online (did Start 0 0 0 900 ∷ did Start 0 1 0 900 ∷ []) 1000 ++ Lost 1 ∷ []) ≡ true

@@ -12,7 +12,7 @@ use Rattle.cluster_types.specs.declared.journal.Outcome.{Outcome}
 use Rattle.cluster_types.specs.declared.journal.Outcome.TheVariants.{Gone}
 use Rattle.cluster_types.specs.AnswersThatApply.{added_by, applies_after, end_event, most_from_outside}
 use Rattle.cluster_types.specs.Journals.{is_on, moment_of, seconds_of}
-use Rattle.cluster_types.specs.Steps.{Applies, Transition, StepsOn, Goes, begins, takes, is_silent, here, one_more, answer_events, in_flight_by_number, journal, count_from_outside, idling}
+use Rattle.cluster_types.specs.Steps.{Applies, Transition, StepsOn, GoesBySteps, begins, takes, is_silent, here, one_more, answer_events, in_flight_by_number, journal, count_from_outside, idling}
 use Rattle.lemmas.proofs.Booleans.{later}
 
 abbrev limit : ℕ
@@ -66,7 +66,7 @@ module _ (t : Transition) (whole : Bool) where
   step_keeps since _ rest left (is_silent _ _ k a said ends) low =
       joined since _ (timeless (journal t since) _ (ended_at_once t.cluster (journal t since) (in_flight_by_number t since) _ _) low)
 
-pub steps_keep : (t : Transition) (whole : Bool) (rest left : Option (List Answer)) (since later : List Event) → Goes t whole since rest later left
+pub steps_keep : (t : Transition) (whole : Bool) (rest left : Option (List Answer)) (since later : List Event) → GoesBySteps t whole since rest later left
     → moment_of (journal t since) < limit → moment_of (journal t later) < limit
 steps_keep t whole rest _ since _ (here _ _) low = low
 steps_keep t whole rest left since later (one_more _ events _ _ middle _ step more) low =

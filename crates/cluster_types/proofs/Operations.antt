@@ -6,7 +6,7 @@ use Rattle.cluster_types.specs.declared.leaf.Op.{Op}
 use Rattle.cluster_types.specs.declared.leaf.Op.TheVariants as op
 use Rattle.cluster_types.specs.declared.leaf.Role.{Role}
 use Rattle.cluster_types.specs.declared.leaf.Role.TheVariants as role
-use Rattle.cluster_types.specs.Precedence.{LeafOnNode, both, cell_of, change_cell, gives_any, gives_role, is_same_op}
+use Rattle.cluster_types.specs.Precedence.{LeafOnNode, both, cell_of, step_cell, gives_any, gives_role, is_same_op}
 use Rattle.cluster_types.specs.Precedes.{IsOperation, GivesRole}
 
 -- both actions have a cell, and the cells pass the test
@@ -63,7 +63,7 @@ pub record Changes (x : Action) (r n : ℕ) : Type 0 where
   pub changes : what ≢ op.Monitor
   pub is : IsOperation what x r n
 
-pub changed_by : (x : Action) (r n : ℕ) → change_cell x ≡ cell_of r n → Changes x r n
+pub changed_by : (x : Action) (r n : ℕ) → step_cell x ≡ cell_of r n → Changes x r n
 changed_by (Fence n) s m h = cc
 changed_by (Probe r n) s m h = cc
 changed_by (Operation op.Start r n i played) s m h = record { what = op.Start; changes = λ k. cc; is = h }
@@ -78,7 +78,7 @@ if_some : (b : Bool) (r n s m : ℕ) → (if b then cell_of r n else None) ≡ c
 if_some true r n s m h = h
 if_some false r n s m h = cc
 
-pub change_of : (o : Op) (x : Action) (r n : ℕ) → o ≢ op.Monitor → IsOperation o x r n → change_cell x ≡ cell_of r n
+pub change_of : (o : Op) (x : Action) (r n : ℕ) → o ≢ op.Monitor → IsOperation o x r n → step_cell x ≡ cell_of r n
 change_of o (Fence n) s m k h = h
 change_of o (Probe r n) s m k h = h
 change_of o (Operation op.Start r n i played) s m k h = if_some (is_same_op o op.Start) r n s m h

@@ -3,9 +3,10 @@ use Rattle.std.proofs.Common.{◌≡◌, ℕ, pos, neg_ℤ, Bool, true, false, L
 use Rattle.std.specs.Prelude.{codes}
 use Rattle.cluster_types.specs.declared.cluster.Cluster.{Cluster}
 use Rattle.cluster_types.specs.declared.journal.Action.{Action}
-use Rattle.cluster_types.specs.declared.journal.Action.TheVariants.{Fence, MigrateTo, MigrateFrom}
+use Rattle.cluster_types.specs.declared.journal.Action.TheVariants.{Fence, Operation, MigrateTo, MigrateFrom}
 use Rattle.cluster_types.specs.declared.leaf.Leaf.{Leaf}
-use Rattle.cluster_types.specs.declared.leaf.Op.TheVariants.{Start, Stop}
+use Rattle.cluster_types.specs.declared.leaf.Op.TheVariants.{Monitor, Start, Stop}
+use Rattle.cluster_types.specs.declared.leaf.Role.TheVariants.{Started}
 use Rattle.cluster_types.specs.Numbers.{is_earlier, rank, step_of}
 use Rattle.cluster_types.specs.Precedence.{must_precede}
 use Rattle.cluster_types.proofs.SmallClusters.{plain_leaf, two_nodes, colocation, start_order, step}
@@ -85,3 +86,34 @@ taken_in_after_sent = refl
 
 stopped_after_taken_in : predecessors (two_nodes (plain_leaf (codes "vm") ∷ [])) migration (step Stop 0 0) ≡ MigrateFrom 0 0 1 ∷ []
 stopped_after_taken_in = refl
+
+-- Two live migrations from one node to the other: each has its turns for itself, and a stop or a monitor waits for the taking in of its own leaf, where that
+-- leaves its node or comes to it.
+
+abbrev movers : Cluster
+movers = two_nodes (plain_leaf (codes "vm") ∷ plain_leaf (codes "db") ∷ [])
+
+abbrev watched : ℕ → ℕ → Action
+watched r n = Operation Monitor r n 10000 Started
+
+abbrev both_moves : List Action
+both_moves =
+    MigrateTo 0 0 1 ∷ MigrateTo 1 0 1 ∷ MigrateFrom 0 0 1 ∷ MigrateFrom 1 0 1 ∷ step Stop 0 0 ∷ step Stop 1 0 ∷ step Stop 0 1 ∷ watched 0 0 ∷ watched 0 1 ∷ watched 1 1 ∷ []
+
+each_is_taken_in_after_its_sending : predecessors movers both_moves (MigrateFrom 1 0 1) ≡ MigrateTo 1 0 1 ∷ []
+each_is_taken_in_after_its_sending = refl
+
+each_stops_after_its_taking_in : predecessors movers both_moves (step Stop 1 0) ≡ MigrateFrom 1 0 1 ∷ []
+each_stops_after_its_taking_in = refl
+
+stop_elsewhere_waits_for_nothing : predecessors movers both_moves (step Stop 0 1) ≡ []
+stop_elsewhere_waits_for_nothing = refl
+
+watched_where_it_is_taken_in : predecessors movers both_moves (watched 1 1) ≡ MigrateFrom 1 0 1 ∷ []
+watched_where_it_is_taken_in = refl
+
+watched_after_both : predecessors movers both_moves (watched 0 1) ≡ MigrateFrom 0 0 1 ∷ step Stop 0 1 ∷ []
+watched_after_both = refl
+
+watched_where_it_was : predecessors movers both_moves (watched 0 0) ≡ step Stop 0 0 ∷ []
+watched_where_it_was = refl

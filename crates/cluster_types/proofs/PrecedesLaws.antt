@@ -16,9 +16,9 @@ use Rattle.cluster_types.specs.declared.rules.Colocation.{Colocation}
 use Rattle.cluster_types.specs.declared.rules.Order.{Order}
 use Rattle.cluster_types.specs.Choice.{is_separation}
 use Rattle.cluster_types.specs.Fields.{copies}
-use Rattle.cluster_types.specs.Precedence.{LeafOnNode, as_earlier, as_later, both, cell_of, change_cell, comes_first_in_cell, demotes_first, fences_first, gives_any, gives_role, inverse, is_across, is_inverse_pair, is_one_cell, is_one_leaf, is_ordered, is_ordered_pair, is_parted, is_serialize, is_serialized, is_some_cell, is_taken_back, is_giving, migrates_first, must_precede, op_cell, parts_first, probe_cell, probes_first, stops_first, takers, takes_or_probes}
+use Rattle.cluster_types.specs.Precedence.{LeafOnNode, as_earlier, as_later, both, cell_of, step_cell, comes_first_in_cell, demotes_first, fences_first, gives_any, gives_role, inverse, is_across, is_inverse_pair, is_one_cell, is_one_leaf, is_ordered, is_ordered_pair, is_parted, is_serialize, is_serialized, is_some_cell, is_taken_back, is_giving, migrates_first, must_precede, op_cell, parts_first, probe_cell, probes_first, stops_first, takers, takes_or_probes}
 use Rattle.cluster_types.specs.Precedes as precedes
-use Rattle.cluster_types.specs.Precedes.{IsOperation, CountsAsFirst, CountsAsLater, GivesRole, TakesOrProbes, ComesFirstOnCell, demote_stop, start_promote, change_monitor, AreSides, dependent_first, primary_first, PutsFirst, forth, back, turned, AreEnds, first_and_then, then_and_first, MigratesInTurn, taken_in_later, stopped_later, watched_later}
+use Rattle.cluster_types.specs.Precedes.{IsOperation, CountsAsFirst, CountsAsLater, GivesRole, TakesOrProbes, ComesFirstOnCell, demote_stop, start_promote, change_monitor, AreSides, dependent_first, primary_first, PutsFirst, forth, back, turned, AreEnds, first_and_then, then_and_first}
 use Rattle.cluster_types.specs.Tables.{is_in_scope}
 use Rattle.cluster_types.proofs.Few.{of_two}
 use Rattle.cluster_types.proofs.Operations.{two_cells, cells_pass, some_given, role_gives, changed_by, change_of}
@@ -94,13 +94,13 @@ module _ (c : Cluster) (actions : List Action) (is_earlier : Action → Action �
   cells_case : (x y : Action) → comes_first_in_cell x y ≡ true → Before x y
   cells_case x y h =
       either (both is_one_cell (op_cell op.Demote x) (op_cell op.Stop y) || both is_one_cell (op_cell op.Start x) (op_cell op.Promote y))
-      (both is_one_cell (change_cell x) (op_cell op.Monitor y)) h
+      (both is_one_cell (step_cell x) (op_cell op.Monitor y)) h
       (λ h. either (both is_one_cell (op_cell op.Demote x) (op_cell op.Stop y)) (both is_one_cell (op_cell op.Start x) (op_cell op.Promote y)) h
       (λ h. let b = two_cells is_one_cell (op_cell op.Demote x) (op_cell op.Stop y) h in
       cell_case op.Demote op.Stop x y b.one.leaf b.one.node b.other.leaf b.other.node demote_stop b.is_one b.is_other b.passes)
       (λ h. let b = two_cells is_one_cell (op_cell op.Start x) (op_cell op.Promote y) h in
       cell_case op.Start op.Promote x y b.one.leaf b.one.node b.other.leaf b.other.node start_promote b.is_one b.is_other b.passes))
-      (λ h. let b = two_cells is_one_cell (change_cell x) (op_cell op.Monitor y) h in
+      (λ h. let b = two_cells is_one_cell (step_cell x) (op_cell op.Monitor y) h in
       let k = changed_by x b.one.leaf b.one.node b.is_one in
       cell_case k.what op.Monitor x y b.one.leaf b.one.node b.other.leaf b.other.node (change_monitor k.what k.changes) k.is b.is_other b.passes)
 
@@ -181,7 +181,7 @@ module _ (c : Cluster) (actions : List Action) (is_earlier : Action → Action �
       let (both_of, sooner) = and_parts (is_serialize o.kind && (is_across o x y || is_across o y x)) (is_earlier x y) h in
       let (kind, across) = and_parts (is_serialize o.kind) (is_across o x y || is_across o y x) both_of in
       either (is_across o x y) (is_across o y x) across
-      (λ k. let b = two_cells (λ a b. a.leaf == o.first && b.leaf == o.then_leaf && is_in_scope o a.node b.node) (change_cell x) (change_cell y) k in
+      (λ k. let b = two_cells (λ a b. a.leaf == o.first && b.leaf == o.then_leaf && is_in_scope o a.node b.node) (step_cell x) (step_cell y) k in
       let (leaves, scope) = and_parts (b.one.leaf == o.first && b.other.leaf == o.then_leaf) (is_in_scope o b.one.node b.other.node) b.passes in
       let (left, right) = and_parts (b.one.leaf == o.first) (b.other.leaf == o.then_leaf) leaves in
       let u = changed_by x b.one.leaf b.one.node b.is_one in
@@ -189,7 +189,7 @@ module _ (c : Cluster) (actions : List Action) (is_earlier : Action → Action �
       precedes.serialize o u.what v.what o.first o.then_leaf b.one.node b.other.node x y present kind first_and_then u.changes v.changes
       (subst (λ w. IsOperation u.what x w b.one.node) (eqb-true b.one.leaf o.first left) u.is)
       (subst (λ w. IsOperation v.what y w b.other.node) (eqb-true b.other.leaf o.then_leaf right) v.is) scope sooner)
-      (λ k. let b = two_cells (λ a b. a.leaf == o.first && b.leaf == o.then_leaf && is_in_scope o a.node b.node) (change_cell y) (change_cell x) k in
+      (λ k. let b = two_cells (λ a b. a.leaf == o.first && b.leaf == o.then_leaf && is_in_scope o a.node b.node) (step_cell y) (step_cell x) k in
       let (leaves, scope) = and_parts (b.one.leaf == o.first && b.other.leaf == o.then_leaf) (is_in_scope o b.one.node b.other.node) b.passes in
       let (left, right) = and_parts (b.one.leaf == o.first) (b.other.leaf == o.then_leaf) leaves in
       let u = changed_by y b.one.leaf b.one.node b.is_one in
@@ -203,35 +203,6 @@ module _ (c : Cluster) (actions : List Action) (is_earlier : Action → Action �
       let f = passing (λ o. is_ordered actions o x y || is_serialized is_earlier o x y) c.orders h in
       either (is_ordered actions f.element x y) (is_serialized is_earlier f.element x y) f.passes
       (ordered_case f.element x y f.among) (serialized_case f.element x y f.among)
-
-  -- of a leaf that migrates
-  migration_case : (x y : Action) → migrates_first x y ≡ true → Before x y
-  migration_case (MigrateTo r f t) (MigrateFrom s g u) h =
-      precedes.migration (MigrateTo r f t) (MigrateFrom s g u) (subst (λ v. MigratesInTurn (MigrateTo r f t) (MigrateFrom v g u)) (eqb-true r s h) (taken_in_later r f t g u))
-  migration_case (MigrateFrom r f t) (Operation op.Stop s n i given) h =
-      let (leaf, node) = and_parts (r == s) (n == f) h in
-      precedes.migration (MigrateFrom r f t) (Operation op.Stop s n i given)
-      (subst (λ v. MigratesInTurn (MigrateFrom r f t) (Operation op.Stop v n i given)) (eqb-true r s leaf)
-      (subst (λ v. MigratesInTurn (MigrateFrom r f t) (Operation op.Stop r v i given)) (sym (eqb-true n f node)) (stopped_later r f t i given)))
-  migration_case (MigrateFrom r f t) (Operation op.Monitor s n i given) h =
-      let (leaf, node) = and_parts (r == s) (n == t) h in
-      precedes.migration (MigrateFrom r f t) (Operation op.Monitor s n i given)
-      (subst (λ v. MigratesInTurn (MigrateFrom r f t) (Operation op.Monitor v n i given)) (eqb-true r s leaf)
-      (subst (λ v. MigratesInTurn (MigrateFrom r f t) (Operation op.Monitor r v i given)) (sym (eqb-true n t node)) (watched_later r f t i given)))
-  migration_case (MigrateFrom r f t) (Operation op.Start s n i given) h = cc
-  migration_case (MigrateFrom r f t) (Operation op.Promote s n i given) h = cc
-  migration_case (MigrateFrom r f t) (Operation op.Demote s n i given) h = cc
-  migration_case (MigrateFrom r f t) (Fence n) h = cc
-  migration_case (MigrateFrom r f t) (Probe s n) h = cc
-  migration_case (MigrateFrom r f t) (MigrateTo s g u) h = cc
-  migration_case (MigrateFrom r f t) (MigrateFrom s g u) h = cc
-  migration_case (MigrateTo r f t) (Fence n) h = cc
-  migration_case (MigrateTo r f t) (Probe s n) h = cc
-  migration_case (MigrateTo r f t) (Operation o s n i given) h = cc
-  migration_case (MigrateTo r f t) (MigrateTo s g u) h = cc
-  migration_case (Fence n) y h = cc
-  migration_case (Probe r n) y h = cc
-  migration_case (Operation o r n i given) y h = cc
 
   module _ (x y : Action) where
     abbrev by_separation : Bool
@@ -250,7 +221,7 @@ module _ (c : Cluster) (actions : List Action) (is_earlier : Action → Action �
         (λ h. either (a || b || d) e h
         (λ h. either (a || b) d h
         (λ h. either a b h (probes_case x y) (stops_case x y))
-        (fences_case x y)) (cells_case x y)) (demotes_case x y)) (parts_case x y)) (orders_case x y)) (migration_case x y)
+        (fences_case x y)) (cells_case x y)) (demotes_case x y)) (parts_case x y)) (orders_case x y)) (precedes.migration x y)
 
     -- From each case its test.
 
@@ -306,7 +277,7 @@ module _ (c : Cluster) (actions : List Action) (is_earlier : Action → Action �
       (and_from (r == r) (n == n) (itself r) (itself n))))
   cell_test _ _ x y r n (change_monitor o changes) k l =
       or_right (both is_one_cell (op_cell op.Demote x) (op_cell op.Stop y) || both is_one_cell (op_cell op.Start x) (op_cell op.Promote y)) _
-      (cells_pass is_one_cell (change_cell x) (op_cell op.Monitor y) r n r n
+      (cells_pass is_one_cell (step_cell x) (op_cell op.Monitor y) r n r n
       (change_of o x r n changes k) l (and_from (r == r) (n == n) (itself r) (itself n)))
 
   demote_test : (p : Op) (x y : Action) (r n m : ℕ) → Contains (takers op.Promote) p → IsOperation p x r n → IsOperation op.Promote y r m → demotes_first x y ≡ true
@@ -361,7 +332,7 @@ module _ (c : Cluster) (actions : List Action) (is_earlier : Action → Action �
   across_test : (o : Order) (p q : Op) (n m : ℕ) (x y : Action) → p ≢ op.Monitor → q ≢ op.Monitor → IsOperation p x o.first n → IsOperation q y o.then_leaf m
       → is_in_scope o n m ≡ true → is_across o x y ≡ true
   across_test o p q n m x y p_changes q_changes k l scope =
-      cells_pass (λ a b. a.leaf == o.first && b.leaf == o.then_leaf && is_in_scope o a.node b.node) (change_cell x) (change_cell y) o.first n o.then_leaf m
+      cells_pass (λ a b. a.leaf == o.first && b.leaf == o.then_leaf && is_in_scope o a.node b.node) (step_cell x) (step_cell y) o.first n o.then_leaf m
       (change_of p x o.first n p_changes k) (change_of q y o.then_leaf m q_changes l)
       (and_from (o.first == o.first && o.then_leaf == o.then_leaf) (is_in_scope o n m)
       (and_from (o.first == o.first) (o.then_leaf == o.then_leaf) (itself o.first) (itself o.then_leaf)) scope)
@@ -371,11 +342,6 @@ module _ (c : Cluster) (actions : List Action) (is_earlier : Action → Action �
   ends_test o p q _ _ n m x y first_and_then p_changes q_changes k l scope = or_left (is_across o x y) (is_across o y x) (across_test o p q n m x y p_changes q_changes k l scope)
   ends_test o p q _ _ n m x y then_and_first p_changes q_changes k l scope =
       or_right (is_across o x y) (is_across o y x) (across_test o q p m n y x q_changes p_changes l k (scope_turned o n m scope))
-
-  migration_test : (x y : Action) → MigratesInTurn x y → migrates_first x y ≡ true
-  migration_test _ _ (taken_in_later r source target from to) = itself r
-  migration_test _ _ (stopped_later r source target i given) = and_from (r == r) (source == source) (itself r) (itself source)
-  migration_test _ _ (watched_later r source target i given) = and_from (r == r) (target == target) (itself r) (itself target)
 
   some_cell : (v : Option LeafOnNode) (r n : ℕ) → v ≡ cell_of r n → is_some_cell v ≡ true
   some_cell v r n e = rw e refl
@@ -404,7 +370,7 @@ module _ (c : Cluster) (actions : List Action) (is_earlier : Action → Action �
       (or_right (is_ordered actions o x y) (is_serialized is_earlier o x y)
       (and_from (is_serialize o.kind && (is_across o x y || is_across o y x)) (is_earlier x y)
       (and_from (is_serialize o.kind) (is_across o x y || is_across o y x) kind (ends_test o p q r s n m x y ends p_changes q_changes k l scope)) sooner)))
-  to_test _ _ (precedes.migration x y turn) = by_migration x y (migration_test x y turn)
+  to_test _ _ (precedes.migration x y turn) = by_migration x y turn
 
 pub precedence : (c : Cluster) (actions : List Action) (is_earlier : Action → Action → Bool) (x y : Action)
     → must_precede c actions is_earlier x y ≡ true ↔ precedes.Precedes c actions is_earlier x y

@@ -6,13 +6,13 @@ use Rattle.lemmas.proofs.Booleans.{fails_too}
 use Rattle.cluster_types.specs.declared.journal.Answer.{Answer}
 use Rattle.cluster_types.specs.declared.journal.Event.{Event}
 use Rattle.cluster_types.specs.Safety.{IsEager, is_gone}
-use Rattle.cluster_types.specs.Steps.{Transition, Goes, has_aborted}
+use Rattle.cluster_types.specs.Steps.{Transition, GoesBySteps, has_aborted}
 use Rattle.cluster_types.proofs.EagerLaws.{keeps-none, keeps-on}
 use Rattle.cluster_types.proofs.NeverStuck.{all-succeeded}
 use Rattle.cluster_types.proofs.StepLaws.{begins-its_own, none_after-abort}
 
 pub eager : (t : Transition) (whole : Bool) (rest left : Option (List Answer)) (later : List Event) → ((j k : ℕ) → t.precedes j k ≡ true → j < k)
-    → Goes t whole [] rest later left → IsEager t later
+    → GoesBySteps t whole [] rest later left → IsEager t later
 eager t whole rest left after upward goes =
     let keeps = keeps-on t whole [] after rest left goes (keeps-none t) in
     record {

@@ -15,7 +15,7 @@ use Rattle.cluster_types.specs.Graphs.{GraphOf}
 use Rattle.cluster_types.specs.Journals.{in_flight_by_begin, ends_number}
 use Rattle.cluster_types.specs.Plans.{CarriesOut, transition_of, transition_on}
 use Rattle.cluster_types.specs.Sources.{untold}
-use Rattle.cluster_types.specs.Steps.{Transition, StepsOn, begins, takes, is_silent, Goes, here, one_more}
+use Rattle.cluster_types.specs.Steps.{Transition, StepsOn, begins, takes, is_silent, GoesBySteps, here, one_more}
 
 -- whatever a source tells, the same steps may come of one that tells nothing
 pub step-untold : (t : Transition) (whole : Bool) (since events : List Event) (rest left : Option (List Answer)) → StepsOn t whole since rest events left
@@ -24,15 +24,15 @@ step-untold t whole since _ rest _ (begins _ k a allowed) = begins None k a allo
 step-untold t whole since _ rest left (takes _ _ given said taken) = takes None None given (untold (Some given)) taken
 step-untold t whole since _ rest left (is_silent _ _ k a said ends) = is_silent None None k a (untold None) ends
 
-pub goes-untold : (t : Transition) (whole : Bool) (since later : List Event) (rest left : Option (List Answer)) → Goes t whole since rest later left
-    → Goes t whole since None later None
+pub goes-untold : (t : Transition) (whole : Bool) (since later : List Event) (rest left : Option (List Answer)) → GoesBySteps t whole since rest later left
+    → GoesBySteps t whole since None later None
 goes-untold t whole since _ rest _ (here _ _) = here since None
 goes-untold t whole since later rest left (one_more _ events _ _ middle _ step more) =
     one_more since events later None None None (step-untold t whole since events rest middle step) (goes-untold t whole (since ++ events) later middle left more)
 
 -- one step after those so far
-pub goes-more : (t : Transition) (whole : Bool) (since later events : List Event) (rest middle left : Option (List Answer)) → Goes t whole since rest later middle
-    → StepsOn t whole later middle events left → Goes t whole since rest (later ++ events) left
+pub goes-more : (t : Transition) (whole : Bool) (since later events : List Event) (rest middle left : Option (List Answer)) → GoesBySteps t whole since rest later middle
+    → StepsOn t whole later middle events left → GoesBySteps t whole since rest (later ++ events) left
 goes-more t whole since _ events rest _ left (here _ _) step = one_more since events (since ++ events) rest left left step (here (since ++ events) left)
 goes-more t whole since later events rest middle left (one_more _ first _ _ next _ step more) last =
     one_more since first (later ++ events) rest next left step (goes-more t whole (since ++ first) later events next middle left more last)

@@ -16,7 +16,7 @@ use Rattle.cluster_types.specs.declared.journal.Outcome.TheVariants.{Gone}
 use Rattle.cluster_types.specs.AnswersThatApply.{end_event, is_number_of}
 use Rattle.cluster_types.specs.Journals.{is_on, moment_of}
 use Rattle.cluster_types.specs.Safety.{AtEachBegin, PredecessorsFirst}
-use Rattle.cluster_types.specs.Steps.{Transition, Begins, Goes, here, one_more, StepsOn, begins, takes, is_silent, action_at, ended, answer_events, in_flight_by_number, journal, has_aborted, has_begun, has_room, has_succeeded, may_begin, numbers}
+use Rattle.cluster_types.specs.Steps.{Transition, Begins, GoesBySteps, here, one_more, StepsOn, begins, takes, is_silent, action_at, ended, answer_events, in_flight_by_number, journal, has_aborted, has_begun, has_room, has_succeeded, may_begin, numbers}
 
 -- an event of a joined list stands in the one or in the other
 pub split : (R : Type 0) (xs ys before after : List Event) (e : Event) → xs ++ ys ≡ before ++ e ∷ after
@@ -103,7 +103,7 @@ module _ (t : Transition) (whole : Bool) (P : List Event → ℕ → Action → 
   step_keeps since _ rest left (is_silent _ _ k a said ends) h =
       at-append P since _ h (λ before after j b q. no_begin (P (since ++ before) j b) _ before after j b (end-begins_nothing t since k _) q)
 
-  pub at_each_begin : (since later : List Event) (rest left : Option (List Answer)) → Goes t whole since rest later left
+  pub at_each_begin : (since later : List Event) (rest left : Option (List Answer)) → GoesBySteps t whole since rest later left
       → AtEachBegin P since → AtEachBegin P later
   at_each_begin since _ rest _ (here _ _) h = h
   at_each_begin since after rest left (one_more _ events _ _ middle _ step more) h =
@@ -134,18 +134,18 @@ module _ (t : Transition) (since : List Event) (k : ℕ) (h : may_begin t since 
 none_yet : (P : List Event → ℕ → Action → Type 0) → AtEachBegin P []
 none_yet P before after k a q = no_begin (P before k a) [] before after k a refl q
 
-pub predecessors-first : (t : Transition) (whole : Bool) (rest left : Option (List Answer)) (later : List Event) → Goes t whole [] rest later left
+pub predecessors-first : (t : Transition) (whole : Bool) (rest left : Option (List Answer)) (later : List Event) → GoesBySteps t whole [] rest later left
     → PredecessorsFirst t later
 predecessors-first t whole rest left after goes =
     at_each_begin t whole (λ before k a. (j : ℕ) → 0 < j → j ≤ length t.actions → t.precedes j k ≡ true → has_succeeded t before j ≡ true)
     (λ since k a begin. has_preceded t since k begin.allowed) [] after rest left goes (none_yet _)
 
-pub begins-its_own : (t : Transition) (whole : Bool) (rest left : Option (List Answer)) (later : List Event) → Goes t whole [] rest later left
+pub begins-its_own : (t : Transition) (whole : Bool) (rest left : Option (List Answer)) (later : List Event) → GoesBySteps t whole [] rest later left
     → AtEachBegin (λ before k a. action_at t k ≡ Some a) later
 begins-its_own t whole rest left after goes =
     at_each_begin t whole (λ before k a. action_at t k ≡ Some a) (λ since k a begin. begin.action) [] after rest left goes (none_yet _)
 
-pub none_after-abort : (t : Transition) (whole : Bool) (rest left : Option (List Answer)) (later : List Event) → Goes t whole [] rest later left
+pub none_after-abort : (t : Transition) (whole : Bool) (rest left : Option (List Answer)) (later : List Event) → GoesBySteps t whole [] rest later left
     → AtEachBegin (λ before k a. has_aborted t before ≡ false) later
 none_after-abort t whole rest left after goes =
     at_each_begin t whole (λ before k a. has_aborted t before ≡ false) (λ since k a begin. not_aborted t since k begin.allowed) [] after rest left goes (none_yet _)

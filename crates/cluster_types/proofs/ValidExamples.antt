@@ -23,13 +23,13 @@ looped_orders = record pair { orders = start_order (codes "o") 0 1 false ∷ sta
 
 orders_have_a_loop : StepsHaveNoLoop looped_orders → ⊥
 orders_have_a_loop h =
-    h (step_of Start 0) (link_then (step_of Start 0) (step_of Start 1) (step_of Start 0) (linked (link Start 0 Start 1) (0, omega arith, refl))
+    h (step_of Start 0) (link_then (step_of Start 0) (step_of Start 1) (step_of Start 0) (linked (link Start 0 Start 1) (0, omega arith, refl)) tt
     (one_link (step_of Start 1) (step_of Start 0) (linked (link Start 1 Start 0) (2, omega arith, refl))))
 
 -- the stops have one too
 stops_have_a_loop : StepsHaveNoLoop looped_orders → ⊥
 stops_have_a_loop h =
-    h (step_of Stop 1) (link_then (step_of Stop 1) (step_of Stop 0) (step_of Stop 1) (linked (link Stop 1 Stop 0) (1, omega arith, refl))
+    h (step_of Stop 1) (link_then (step_of Stop 1) (step_of Stop 0) (step_of Stop 1) (linked (link Stop 1 Stop 0) (1, omega arith, refl)) tt
     (one_link (step_of Stop 0) (step_of Stop 1) (linked (link Stop 0 Stop 1) (3, omega arith, refl))))
 
 -- a must be with b, and b likes to be with a
@@ -38,7 +38,7 @@ looped_needs = record pair { colocations = colocation (codes "x") 0 1 (pos 10000
 
 needs_have_a_loop : NeedsHaveNoLoop looped_needs → ⊥
 needs_have_a_loop h =
-    h (Place 0) (link_then (Place 0) (Place 1) (Place 0) (record { there = (2, omega arith, refl); needed = refl })
+    h (Place 0) (link_then (Place 0) (Place 1) (Place 0) (record { there = (2, omega arith, refl); needed = refl }) tt
     (one_link (Place 1) (Place 0) (record { there = (0, omega arith, refl); needed = refl })))
 
 abbrev one : Cluster
@@ -56,11 +56,11 @@ to_place (Promote r) (Promote s) h = cc
 
 starts_promotion : (d e : Decision) → NeedsByChain one (all_decisions one) d e → is_place d ≡ false
 starts_promotion _ _ (one_link d e n) = from_promotion d e n.needed
-starts_promotion _ _ (link_then d e f n rest) = from_promotion d e n.needed
+starts_promotion _ _ (link_then d e f n _ rest) = from_promotion d e n.needed
 
 ends_place : (d e : Decision) → NeedsByChain one (all_decisions one) d e → is_place e ≡ true
 ends_place _ _ (one_link d e n) = to_place d e n.needed
-ends_place _ _ (link_then d e f n rest) = ends_place e f rest
+ends_place _ _ (link_then d e f n _ rest) = ends_place e f rest
 
 no_needs : NeedsHaveNoLoop one
 no_needs d ring = let s = starts_promotion d d ring in let e = ends_place d d ring in cc
@@ -70,7 +70,7 @@ no_link _ _ (linked l h) = of_none (λ _. ⊥) l h
 
 no_links : StepsHaveNoLoop one
 no_links s (one_link _ _ l) = no_link s s l
-no_links s (link_then _ t _ l rest) = no_link s t l
+no_links s (link_then _ t _ l _ rest) = no_link s t l
 
 names_differ : codes "n1" ≢ codes "n2"
 names_differ e = let digits : slice_index (codes "n1") 1 ≡ slice_index (codes "n2") 1 = ap (λ (name : List ℕ). slice_index name 1) e in

@@ -12,7 +12,8 @@ use Rattle.lemmas.proofs.Searches.{passes_by}
 use Rattle.lemmas.proofs.Ranges.{filter-alike}
 use Rattle.edges.specs.declared.edge.Edge.{Edge}
 use Rattle.cluster_types.specs.declared.graph_edges.Edges.{Edges}
-use Rattle.cluster_types.specs.Graphs.{GraphOf, IsGraph, LeadUpward, LeadsByGates, direct, through, is_before, is_action_number}
+use Rattle.edges.specs.Chains.{link_then, linked, one_link}
+use Rattle.cluster_types.specs.Graphs.{GraphOf, IsGraph, LeadUpward, LeadsByGates, is_before, is_action_number}
 use Rattle.edges.specs.Loops.{EndsWithin}
 use Rattle.listed.specs.Flags.{is_marked}
 use Rattle.cluster_types.specs.Inner.Walks.{AreMarked, joins}
@@ -84,7 +85,7 @@ joined edges e y c h =
 
 module _ (actions positions : ℕ) (edges : List Edge) (y : ℕ) (ends : EndsWithin positions edges) (upward : LeadUpward actions edges) where
   straight : (x : ℕ) → (e : Edge) × Contains edges e × (e.after ≡ y) × (e.before ≡ x) → LeadsByGates actions edges x y
-  straight x (e, c, a, b) = rw (← a, ← b) (direct e c)
+  straight x (e, c, a, b) = rw (← a, ← b) (one_link _ _ (linked e c))
 
   pub at_first : (old marks : List Bool) → ((x : ℕ) → is_marked old x ≡ false)
       → ((x : ℕ) → is_marked marks x ≡ (is_marked old x || list_any (joins x y) edges)) → AreMarked actions edges y positions marks
@@ -108,7 +109,7 @@ module _ (actions positions : ℕ) (edges : List Edge) (y : ℕ) (ends : EndsWit
         at_gate e c gate above f (inr other) = before.through e c gate (omega arith) f
 
     around : is_marked old lowest ≡ true → (x : ℕ) → (e : Edge) × Contains edges e × (e.after ≡ lowest) × (e.before ≡ x) → LeadsByGates actions edges x y
-    around h x (e, c, a, b) = rw (← b) (through e y c (omega arith) (rw a (before.leading lowest h)))
+    around h x (e, c, a, b) = rw (← b) (link_then _ _ y (linked e c) (omega arith) (rw a (before.leading lowest h)))
 
     module _ (marks : List Bool) (h : is_marked old lowest ≡ true)
         (made : (x : ℕ) → is_marked marks x ≡ (is_marked old x || list_any (joins x lowest) edges)) where
@@ -144,8 +145,8 @@ module _ (actions positions : ℕ) (edges : List Edge) (y : ℕ) (ends : EndsWit
 -- once all gates are done, all that lead to y are marked
 pub all_marked : (actions : ℕ) (edges : List Edge) (x y : ℕ) (marks : List Bool) → AreMarked actions edges y actions marks → LeadsByGates actions edges x y
     → is_marked marks x ≡ true
-all_marked actions edges _ _ marks made (direct e c) = made.direct e c refl
-all_marked actions edges _ _ marks made (through e y c gate rest) = made.through e c gate gate (all_marked actions edges e.after y marks made rest)
+all_marked actions edges _ _ marks made (one_link _ _ (linked e c)) = made.direct e c refl
+all_marked actions edges _ _ marks made (link_then _ _ y (linked e c) gate rest) = made.through e c gate gate (all_marked actions edges e.after y marks made rest)
 
 -- the numbers of the actions are those from 1 to their count
 pub numbered : (g : GraphOf) (k : ℕ) → 0 < k → k ≤ length g.actions → is_action_number g k ≡ true

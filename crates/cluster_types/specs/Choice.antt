@@ -67,10 +67,11 @@ cap_of c es (Promote r) =
 
 -- what one colocation says, with the table so far
 module _ (table : Targets) where
-  -- the decision gives one side of the colocation its role on the node, where the other side holds its own
+  -- the decision gives the dependent of the colocation its role on the node, where the primary holds its own
   abbrev pub would_join_primary : Decision → ℕ → Colocation → Bool
   would_join_primary d n col = is_dependent d col && holds_role table col.primary col.primary_role n
 
+  -- it gives the primary its role on the node, where the dependent holds its own
   abbrev pub would_join_dependent : Decision → ℕ → Colocation → Bool
   would_join_dependent d n col = is_primary d col && holds_role table col.dependent col.dependent_role n
 
@@ -86,7 +87,7 @@ module _ (c : Cluster) (table : Targets) where
   has_primaries d n =
       list_all (λ col. implies (is_mandatory col && is_dependent d col) (holds_role table col.primary col.primary_role n)) c.colocations
 
-  -- for each separation, the decision joins neither side to the other
+  -- for each separation, the decision gives neither side its role where the other has its own
   abbrev pub is_apart : Decision → ℕ → Bool
   is_apart d n = list_all (λ col. implies (is_separation col) (not (would_join_primary table d n col) && not (would_join_dependent table d n col))) c.colocations
 

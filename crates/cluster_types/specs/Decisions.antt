@@ -3,7 +3,7 @@ use Rattle.std.specs.Prelude.{◌≡◌, ◌≢◌, ℕ, suc, zero, nat_lt, ◌=
 use Rattle.std.specs.List.{list_any, list_all, flat_map, range_with_len}
 use Rattle.std.specs.Int.{int_max}
 use Rattle.std.specs.Ordering.{int_eq}
-use Rattle.edges.specs.Chains.{Chain, LinksHaveNoLoop}
+use Rattle.edges.specs.Chains.{Chain, LinksHaveNoLoop, leads_through}
 use Rattle.score.specs.Total.{minus_infinity}
 use Rattle.cluster_types.specs.declared.cluster.Cluster.{Cluster}
 use Rattle.cluster_types.specs.declared.journal.Event.{Event}
@@ -44,7 +44,8 @@ abbrev pub decision_of : ℕ → Role → Decision
 decision_of r role.Started = Place r
 decision_of r role.Promoted = Promote r
 
--- by what decisions are compared: the priority of the leaf, the greatest total where it is active, the greatest total on a usable node
+-- by what decisions are compared: the priority of the leaf, the greatest base where it is active (for Promote, where it is promoted), the greatest base on a
+-- usable node
 pub record Key : Type 0 where
   pub priority : ℤ
   pub active : ℤ
@@ -94,13 +95,17 @@ NeedsHaveNoLoop c = LinksHaveNoLoop (IsNeedLink c (all_decisions c))
 abbrev pub NeedsByChain : Cluster → List Decision → Decision → Decision → Type 0
 NeedsByChain c among d e = Chain (IsNeedLink c among) d e
 
--- the same, computed, over chains of so many needs at most. As many as there are decisions are enough (`needs_are_computed` of crate `loops`)
-abbrev pub needs_through : Cluster → List Decision → ℕ → Decision → Decision → Bool
-needs_through c among zero d e = false
-needs_through c among (suc most) d e = list_any (λ f. needs c d f && (is_same_decision f e || needs_through c among most f e)) among
+-- the one decision needs the other, which is among these, as a test
+abbrev pub needs_at_once : Cluster → List Decision → Decision → Decision → Bool
+needs_at_once c among d e = is_among among e && needs c d e
+
+-- the one decision needs the other through a chain of needs among these, as a test: at once, or through decisions that need one another in turn
+-- (`needs_are_computed` of crate `loops`)
+abbrev pub needs_through : Cluster → List Decision → Decision → Decision → Bool
+needs_through c among d e = leads_through (needs_at_once c among) among d e
 
 module _ (c : Cluster) (es : List Event) where
-  -- a leaf that isn't pinned is placed, and promoted where it is promotable
+  -- of a leaf that isn't pinned its place is decided, and of a promotable one its promotion
   abbrev pub decisions_of : ℕ → List Decision
   decisions_of r = if is_pinned c es r then [] else Place r ∷ (if is_promotable c r then Promote r ∷ [] else [])
 
@@ -115,20 +120,21 @@ module _ (c : Cluster) (es : List Event) where
   is_ready made d = is_decision d && not (is_among made d) && list_all (λ e. implies (needs c d e) (is_among made e)) decisions
 
 module _ (c : Cluster) (es : List Event) (promotions : List Promotion) where
-  abbrev pub totals_where : (ℕ → Bool) → Decision → List ℤ
-  totals_where passes d = map (base c es promotions d) (filter passes (range_with_len 0 (length c.nodes)))
+  -- the bases of a decision on the nodes that pass
+  abbrev pub bases_where : (ℕ → Bool) → Decision → List ℤ
+  bases_where passes d = map (base c es promotions d) (filter passes (range_with_len 0 (length c.nodes)))
 
   abbrev pub key_of : Decision → Key
   key_of d = record {
     priority = priority c (leaf_of d);
-    active = greatest_of (totals_where (λ n. is_active_for d (cell_state c (leaf_of d) n es)) d);
-    usable = greatest_of (totals_where (λ n. is_usable c n es) d);
+    active = greatest_of (bases_where (λ n. is_active_for d (cell_state c (leaf_of d) n es)) d);
+    usable = greatest_of (bases_where (λ n. is_usable c n es) d);
   }
 
   -- the greatest key among the decision and all that need it through a chain of needs
   abbrev pub effective_key : Decision → Key
   effective_key d =
-      fold greater_key (key_of d) (map key_of (filter (λ e. needs_through c (decisions c es) (length (decisions c es)) e d) (decisions c es)))
+      fold greater_key (key_of d) (map key_of (filter (λ e. needs_through c (decisions c es) e d) (decisions c es)))
 
   -- which of two decisions is made first: the greater effective key, then the earlier leaf, then Place
   abbrev pub is_made_before : Decision → Decision → Bool

@@ -39,7 +39,7 @@ module _ (c : Cluster) (r : ℕ) where
   abbrev pub may_migrate : Bool
   may_migrate = of_leaf (λ leaf. leaf.migrates) false
 
-  -- the points of its scores
+  -- in points
   abbrev pub priority : ℤ
   priority = of_leaf (λ leaf. leaf.priority) (pos 0)
 

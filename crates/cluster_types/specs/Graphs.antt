@@ -1,8 +1,9 @@
--- Which action of a graph comes before which, by edges and gates (how edges are kept few is a rule of this project).
-use Rattle.std.specs.Prelude.{◌≡◌, nat_lt, ℕ, suc, zero, ◌-◌, ◌<◌, ◌≤◌, nat_le, ◌==◌, ◌&&◌, ◌||◌, Bool, true, false, List, length, Contains}
-use Rattle.std.specs.List.{list_any}
+-- Which action of a graph comes before which, by edges and gates (rule of this project).
+use Rattle.std.specs.Prelude.{◌≡◌, nat_lt, ℕ, ◌-◌, ◌<◌, ◌≤◌, nat_le, ◌&&◌, Bool, true, List, length, filter, Contains}
+use Rattle.std.specs.List.{range_with_len}
 use Rattle.edges.specs.declared.edge.Edge.{Edge}
-use Rattle.edges.specs.Loops.{EndsWithin}
+use Rattle.edges.specs.Chains.{ChainThrough, leads_through}
+use Rattle.edges.specs.Loops.{EndsWithin, IsEdge, is_edge}
 use Rattle.cluster_types.specs.declared.graph_edges.Edges.{Edges}
 use Rattle.cluster_types.specs.declared.journal.Action.{Action}
 
@@ -12,28 +13,26 @@ pub record GraphOf : Type 0 where
   pub edges : Edges
 
 -- from position x edges lead to position y through gates alone. Gates are the positions from this count of actions on
-pub data LeadsByGates (actions : ℕ) (edges : List Edge) : ℕ → ℕ → Type 0 where
-  direct : (e : Edge) → Contains edges e → LeadsByGates actions edges e.before e.after
-  through : (e : Edge) (y : ℕ) → Contains edges e → actions ≤ e.after → LeadsByGates actions edges e.after y → LeadsByGates actions edges e.before y
-
--- the same, computed, over at most so many edges. In a graph, as many as there are positions are enough (`paths_are_computed`)
-abbrev pub leads_by_gates_within : ℕ → ℕ → List Edge → ℕ → ℕ → Bool
-leads_by_gates_within zero actions edges x y = false
-leads_by_gates_within (suc most) actions edges x y =
-    list_any (λ e. e.before == x && (e.after == y || nat_le actions e.after && leads_by_gates_within most actions edges e.after y)) edges
+abbrev pub LeadsByGates : ℕ → List Edge → ℕ → ℕ → Type 0
+LeadsByGates actions edges x y = ChainThrough (λ via. actions ≤ via) (IsEdge edges) x y
 
 -- the number of an action
 abbrev pub is_action_number : GraphOf → ℕ → Bool
 is_action_number g x = nat_lt 0 x && nat_le x (length g.actions)
 
--- the action of number x comes before that of number y: the edges lead from its position to the other's
-abbrev pub is_before : GraphOf → ℕ → ℕ → Bool
-is_before g x y = is_action_number g x && is_action_number g y && leads_by_gates_within g.edges.positions (length g.actions) g.edges.list (x - 1) (y - 1)
+-- the gates of a graph: the positions behind those of its actions
+abbrev pub gates : GraphOf → List ℕ
+gates g = filter (λ x. nat_le (length g.actions) x) (range_with_len 0 g.edges.positions)
 
+-- the action of number x comes before that of number y: edges lead from its position to the other's, at once or through gates alone
 pub record IsBefore (g : GraphOf) (x y : ℕ) : Type 0 where
   pub earlier : is_action_number g x ≡ true
   pub later : is_action_number g y ≡ true
   pub leads : LeadsByGates (length g.actions) g.edges.list (x - 1) (y - 1)
+
+-- the same as a test: at once, or through some of the gates (`paths_are_computed`)
+abbrev pub is_before : GraphOf → ℕ → ℕ → Bool
+is_before g x y = is_action_number g x && is_action_number g y && leads_through (is_edge g.edges.list) (gates g) (x - 1) (y - 1)
 
 -- an edge to a gate leads upward
 abbrev pub LeadUpward : ℕ → List Edge → Type 0

@@ -18,7 +18,8 @@ use Rattle.cluster_types.specs.Tables.{Targets, holds_role, is_in_scope}
 use Rattle.cluster_types.specs.Precedence.{is_giving, role_given}
 
 module _ (c : Cluster) (es : List Event) (table : Targets) where
-  -- a mandatory order whose words both give a role may hold its then back on a node where it was chosen. The table is that after all decisions
+  -- a mandatory order whose words both give a role may hold its then back on a node where it has the role, chosen and not pinned. The table is that after all
+  -- decisions
   pub record OrderCanHoldBack (o : Order) (n : ℕ) : Type 0 where
     pub present : Contains c.orders o
     pub mandatory : o.kind ≡ kind.Mandatory
@@ -28,7 +29,7 @@ module _ (c : Cluster) (es : List Event) (table : Targets) where
     pub within : n < length c.nodes
     pub chosen : holds_role table o.then_leaf (role_given o.then_op) n ≡ true
 
-  -- a mandatory colocation may hold its dependent back on a node where it was chosen
+  -- a mandatory colocation may hold its dependent back on a node where it has its role, chosen and not pinned
   pub record ColocationCanHoldBack (col : Colocation) (n : ℕ) : Type 0 where
     pub present : Contains c.colocations col
     pub mandatory : is_mandatory col ≡ true
@@ -36,13 +37,13 @@ module _ (c : Cluster) (es : List Event) (table : Targets) where
     pub within : n < length c.nodes
     pub chosen : holds_role table col.dependent col.dependent_role n ≡ true
 
-  -- each target that the first of the order has, in its role and in scope, is in the set (it may have none)
+  -- the decision on each target that the first of the order has, in its role and in scope, is in the set there (the first may have no target)
   abbrev pub LacksFirst : (Decision → ℕ → Type 0) → Order → ℕ → Type 0
   LacksFirst set o n =
       (m : ℕ) → m < length c.nodes → is_in_scope o n m ≡ true → holds_role table o.first (role_given o.first_op) m ≡ true
       → set (decision_of o.first (role_given o.first_op)) m
 
-  -- the primary has no target in its role on the node, or that one is in the set
+  -- the primary has no target in its role on the node, or the decision on it is in the set there
   abbrev pub LacksPrimary : (Decision → ℕ → Type 0) → Colocation → ℕ → Type 0
   LacksPrimary set col n = holds_role table col.primary col.primary_role n ≡ true → set (decision_of col.primary col.primary_role) n
 
@@ -59,7 +60,7 @@ module _ (c : Cluster) (es : List Event) (table : Targets) where
         → Held (decision_of col.dependent col.dependent_role) n
     by_place : (r n : ℕ) → holds_role table r role.Promoted n ≡ true → Held (Place r) n → Held (Promote r) n
 
-  -- the target of a cell in the end: what was chosen there and isn't held
+  -- the target of a cell in the end: what the table has there and isn't held. What a pinned leaf keeps is never held
   abbrev pub IsFinalTarget : ℕ → ℕ → Target → Type 0
   IsFinalTarget r n target.Nowhere = holds_role table r role.Started n ≡ true → Held (Place r) n
   IsFinalTarget r n target.Started =

@@ -53,15 +53,15 @@ abbrev pub ends_number : ℕ → Event → Bool
 ends_number k (Ended j a o moment) = j == k
 ends_number k _ = false
 
--- what is in flight, by begin: each action that began, with its number, of which no end follows it, in the order in which they began (Pacemaker
--- Administration, "Transitions")
+-- what is in flight, by begin: each action that began, with its number, when no end of that number follows its begin; in the order in which they began
+-- (Pacemaker Administration, "Transitions")
 abbrev pub in_flight_by_begin : List Event → List (ℕ × Action)
 in_flight_by_begin [] = []
 in_flight_by_begin (Begin k a ∷ es) = if list_any (ends_number k) es then in_flight_by_begin es else (k, a) ∷ in_flight_by_begin es
 in_flight_by_begin (e ∷ es) = in_flight_by_begin es
 
--- the same by number: these actions, in the order of their numbers, as a source of answers sees them. No run has two of one number in flight, of which no list is
--- this
+-- these are the actions in flight by begin, put in the order of their numbers, as a source of answers sees them. In no run that begins
+-- with nothing in flight are two of one number in flight; of a journal that has two different ones so, no list is this
 pub record AreInFlightByNumber (es : List Event) (pairs : List (ℕ × Action)) : Type 0 where
   pub members : (k : ℕ) (a : Action) → Contains pairs (k, a) ↔ Contains (in_flight_by_begin es) (k, a)
   pub ascending : AllPairs (λ (x y : ℕ × Action). x.0 < y.0) pairs

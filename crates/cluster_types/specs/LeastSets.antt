@@ -1,5 +1,5 @@
--- Which sets are closed under the rules of `Held` and of `Cycled`. Each of the two is closed, and lies in each closed set that a test tells (follows from
--- their rules). The laws alone cite this module.
+-- Which sets are closed under the rules of `Held` and of `Cycled`. Each of the two is closed, and lies in each closed set of which a test says what is in it
+-- (follows from their rules). The laws alone cite this module.
 use Rattle.std.specs.Prelude.{◌≡◌, ℕ, ◌<◌, nat_lt, true, false, List, length}
 use Rattle.cluster_types.specs.declared.cluster.Cluster.{Cluster}
 use Rattle.cluster_types.specs.declared.journal.Event.{Event}

@@ -26,10 +26,10 @@ use Rattle.cluster_types.specs.Pins.{is_pinned, is_unprobed_state}
 use Rattle.cluster_types.specs.Rights.{is_to_be_fenced, may_start}
 use Rattle.cluster_types.specs.Terms.{active_count}
 use Rattle.cluster_types.specs.Tables.{Targets, holds_role, is_in_scope, is_somewhere}
-use Rattle.cluster_types.specs.Precedence.{is_giving, role_given}
+use Rattle.cluster_types.specs.Precedence.{is_giving, is_same_op, role_given, takers}
 
--- the steps that bring a cell from its state to its target. A cycled cell is stopped and started again on the way. The others need none: an Off or Unprobed
--- cell without a target, one that is Away (it has no target), and one that is Blocked (its leaf is pinned)
+-- the steps that bring a cell from its state to its target. A cycled cell is stopped and started again on the way. A cell that is as its target says and isn't
+-- cycled needs none; nor does an Off or Unprobed cell without a target, one that is Away (it has no target), or one that is Blocked (its leaf is pinned)
 abbrev pub steps_of : CellState → Target → Bool → List Op
 steps_of cell.Unprobed target.Started cycled = op.Start ∷ []
 steps_of cell.Unprobed target.Promoted cycled = op.Start ∷ op.Promote ∷ []
@@ -52,14 +52,9 @@ runs cell.On = true
 runs cell.Promoted = true
 runs _ = false
 
--- by the order's word for its first: the step takes away the role that the word gives, or gives it anew
+-- by the order's word for its first: the word gives a role, and the step gives it anew or takes it away
 abbrev pub disturbs : Op → Op → Bool
-disturbs op.Start op.Start = true
-disturbs op.Start op.Stop = true
-disturbs op.Promote op.Promote = true
-disturbs op.Promote op.Demote = true
-disturbs op.Promote op.Stop = true
-disturbs _ _ = false
+disturbs word step = is_giving word && list_any (is_same_op step) (word ∷ takers word)
 
 abbrev pub has_disturbing : Op → List Op → Bool
 has_disturbing word steps = list_any (disturbs word) steps
@@ -92,8 +87,9 @@ module _ (c : Cluster) (es : List Event) (targets : Targets) where
     pub can_be_cycled : can_cycle o.then_leaf n ≡ true
     pub in_role : holds_role targets o.then_leaf (role_given o.then_op) n ≡ true
 
-  -- the cells that are stopped and started again, by three rules and nothing else: a cell that can be cycled, of a leaf that is active in more cells than it has copies; and
-  -- the then of an order whose first is disturbed in scope, by the steps that it needs itself, or by those that it gets as a cycled cell
+  -- the cells that are cycled: the leaf runs there and has a target there, and is stopped and started again all the same. (What has failed is stopped and
+  -- started again by `steps_of`.) By three rules and nothing else: a cell that can be cycled, of a leaf that is active in more cells than it has copies; and the
+  -- then of an order that can cycle it, where the first is disturbed in scope, by the steps that it needs itself or by those that it gets as a cycled cell
   pub data Cycled : ℕ → ℕ → Type 0 where
     by_copies : (r n : ℕ) → r < length c.leaves → n < length c.nodes → can_cycle r n ≡ true → nat_lt (copies c r) (active_count c es r) ≡ true → Cycled r n
     by_order : (o : Order) (n m : ℕ) → OrderCanCycle o n m
@@ -110,7 +106,7 @@ module _ (c : Cluster) (es : List Event) (targets : Targets) where
   abbrev pub GetsAnyStep : ℕ → ℕ → Type 0
   GetsAnyStep r n = (step : Op) × GetsStep r n step
 
-  -- the monitor is needed: the cell has a target of its role, and it isn't running or the cell gets a step
+  -- the monitor is needed: the leaf isn't pinned and has a target of the monitor's role there; and the monitor isn't running, or the cell gets a step
   abbrev pub NeedsMonitor : ℕ → ℕ → MonitorOf → Type 0
   NeedsMonitor r n m =
       (is_pinned c es r ≡ false) × (is_monitor_for m.role (targets r n) ≡ true)
@@ -128,17 +124,17 @@ module _ (c : Cluster) (es : List Event) (targets : Targets) where
   abbrev pub GetsStepAnywhere : ℕ → Type 0
   GetsStepAnywhere r = (n : ℕ) × (n < length c.nodes) × GetsAnyStep r n
 
-  -- an order leaves a migration of r be: r isn't in it; r is its first by a start, and it isn't Serialize; or the other leaf gets no step. An order of r
-  -- with itself is judged by its first alone
-  abbrev pub IsHarmlessOrder : ℕ → Order → Type 0
-  IsHarmlessOrder r o =
-      (o.first ≡ r → ((o.kind ≢ kind.Serialize) × (o.first_op ≡ op.Start)) ⊎ (¬ GetsStepAnywhere o.then_leaf))
-      × (o.then_leaf ≡ r → o.first ≢ r → ¬ GetsStepAnywhere o.first)
+  -- an order leaves a migration of r be, on whichever side r stands. An order of r with itself is judged by its first alone
+  pub record IsHarmlessOrder (r : ℕ) (o : Order) : Type 0 where
+    -- r is its first, by a start, and it isn't Serialize; or the other leaf gets no step
+    pub as_first : o.first ≡ r → ((o.kind ≢ kind.Serialize) × (o.first_op ≡ op.Start)) ⊎ (¬ GetsStepAnywhere o.then_leaf)
+    -- r is its then: the other leaf gets no step
+    pub as_then : o.then_leaf ≡ r → o.first ≢ r → ¬ GetsStepAnywhere o.first
 
-  -- a colocation leaves it be: it is no separation, r isn't in it, or the other leaf gets no step
-  abbrev pub IsHarmlessColocation : ℕ → Colocation → Type 0
-  IsHarmlessColocation r col =
-      is_separation col ≡ true → (col.dependent ≡ r → ¬ GetsStepAnywhere col.primary) × (col.primary ≡ r → ¬ GetsStepAnywhere col.dependent)
+  -- a colocation leaves it be: where it is a separation of r from another leaf, that one gets no step
+  pub record IsHarmlessColocation (r : ℕ) (col : Colocation) : Type 0 where
+    pub as_dependent : is_separation col ≡ true → col.dependent ≡ r → ¬ GetsStepAnywhere col.primary
+    pub as_primary : is_separation col ≡ true → col.primary ≡ r → ¬ GetsStepAnywhere col.dependent
 
   -- the leaf migrates live from n to m (Pacemaker Explained, "Migrating Resources"; when a rule is harmless is a rule of this project)
   pub record Migrates (r n m : ℕ) : Type 0 where

@@ -1,6 +1,6 @@
 -- The order in which actions are numbered (rule of this project).
 use Rattle.std.specs.Prelude.{◌≡◌, ◌≢◌, ◌↔◌, ℕ, suc, zero, ◌+◌, ◌*◌, nat_lt, ◌==◌, ◌&&◌, ◌||◌, Bool, true, not, if◌then◌else◌, List, [], ◌∷◌, ◌++◌, length, map, filter, fold, max, Contains, AllPairs}
-use Rattle.std.specs.List.{flat_map, range_with_len}
+use Rattle.std.specs.List.{flat_map, list_any, range_with_len}
 use Rattle.edges.specs.Chains.{LinksHaveNoLoop, IsLinked, IsLongestChain}
 use Rattle.cluster_types.specs.declared.cluster.Cluster.{Cluster}
 use Rattle.cluster_types.specs.declared.journal.Action.{Action}
@@ -47,7 +47,7 @@ order_links o =
     if is_serialize o.kind then []
     else link o.first_op o.first o.then_op o.then_leaf ∷ (if o.symmetrical then inverse_links o else [])
 
--- only promotable leaves have promote and demote steps
+-- a start or a stop counts as a step of any leaf; a promote or a demote of a promotable one alone (a link has no monitor)
 abbrev pub is_step : Cluster → LeafStep → Bool
 is_step c s = is_same_op s.what op.Start || is_same_op s.what op.Stop || is_promotable c s.leaf
 
@@ -69,15 +69,15 @@ IsStepLink c s t = IsLinked (λ (l : Link). l.before) (λ (l : Link). l.after) (
 abbrev pub IsRank : Cluster → LeafStep → ℕ → Type 0
 IsRank c s count = IsLongestChain (IsStepLink c) s count
 
--- the length of the longest chain of links that ends at a step, of those at most this long
-abbrev pub chain_within : Cluster → ℕ → LeafStep → ℕ
-chain_within c zero s = 0
-chain_within c (suc most) s =
-    fold max 0 (map (λ l. chain_within c most l.before + 1) (filter (λ l. is_same_step l.after s) (links c)))
+-- a chain of so many links ends at the step, as a test
+abbrev pub ends_chain : Cluster → ℕ → LeafStep → Bool
+ends_chain c zero s = true
+ends_chain c (suc count) s = list_any (λ l. is_same_step l.after s && ends_chain c count l.before) (links c)
 
--- the same, computed: where the links have no loop, no chain is longer than there are steps: four a leaf at most (`rank_is_computed` of crate `loops`)
+-- the rank, computed: the greatest number of links of a chain that ends at the step. Where the links have no loop, and are of leaves that are there, a step
+-- stands in a chain once at most. So a chain has fewer links than there are steps, four for each leaf (`ranks_are_computed` of crate `loops`)
 abbrev pub rank : Cluster → LeafStep → ℕ
-rank c s = chain_within c (4 * length c.leaves) s
+rank c s = fold max 0 (filter (λ count. ends_chain c count s) (range_with_len 0 (4 * length c.leaves)))
 
 -- the links have no loop: no chain of them leads from a step back to it
 abbrev pub StepsHaveNoLoop : Cluster → Type 0
@@ -87,11 +87,11 @@ StepsHaveNoLoop c = LinksHaveNoLoop (IsStepLink c)
 pub data NumberPhase : Type 0 where
   Fences : NumberPhase
   Probes : NumberPhase
-  -- stops and demotes
+  -- demotes, and the stops of leaves that don't migrate
   Stops : NumberPhase
-  -- migrations, on their sources
+  -- the sendings of leaves that migrate, each on its source
   Sends : NumberPhase
-  -- migrations, on their targets
+  -- their takings in, each on its target
   TakingsIn : NumberPhase
   -- the stops of the leaves that migrate
   SourceStops : NumberPhase

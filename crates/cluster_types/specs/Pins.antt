@@ -1,5 +1,5 @@
 -- Which leaves are left as they are (Pacemaker Explained, "is-managed" and "on-fail"; what they then count for is a rule of this project).
-use Rattle.std.specs.Prelude.{ℕ, nat_lt, ◌&&◌, Bool, true, false, not, if◌then◌else◌, Option, Some, None, is_some, List, length, slice_get}
+use Rattle.std.specs.Prelude.{ℕ, nat_lt, ◌&&◌, Bool, true, false, not, if◌then◌else◌, Option, Some, None, is_some, unwrap_or, List, length, slice_get}
 use Rattle.std.specs.List.{list_any, range_with_len}
 use Rattle.std.specs.Option.{option_map_or}
 use Rattle.cluster_types.specs.declared.cluster.Cluster.{Cluster}
@@ -23,7 +23,11 @@ abbrev pub is_unprobed_state : CellState → Bool
 is_unprobed_state cell.Unprobed = true
 is_unprobed_state _ = false
 
--- whether a leaf is left as it is, by a list that says why of each leaf; one that the list doesn't have is too
+-- why a leaf is left as it is, by a list that says it of each leaf. Of one that the list doesn't have nothing is said
+abbrev pub leaf_pin : List (Option Pin) → ℕ → Option Pin
+leaf_pin pins r = unwrap_or (slice_get pins r) None
+
+-- whether a leaf is left as it is, by such a list; one that the list doesn't have is too
 abbrev pub is_pinned_in : List (Option Pin) → ℕ → Bool
 is_pinned_in pins r = option_map_or (λ (pin : Option Pin). is_some pin) (slice_get pins r) true
 
@@ -37,7 +41,7 @@ module _ (c : Cluster) (es : List Event) where
   abbrev pub is_pinned : ℕ → Bool
   is_pinned r = is_some (pin_of r)
 
-  -- a pinned leaf has as targets the cells on online nodes where it may run and that were probed
+  -- a pinned leaf has as targets the cells on online nodes where it may run and something of it is known: they aren't Unprobed
   abbrev pub stays : ℕ → ℕ → Bool
   stays r n = nat_lt r (length c.leaves) && nat_lt n (length c.nodes) && is_pinned r && is_online c n es && may_be_running c r n es && not (is_unprobed_state (cell_state c r n es))
 

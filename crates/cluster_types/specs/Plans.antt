@@ -1,5 +1,5 @@
 -- The plan for a journal: where everything goes, what has to be done for it, and in which order (Pacemaker Administration, "Transitions").
-use Rattle.std.specs.Prelude.{◌≡◌, ◌≤◌, ℕ, ◌*◌, Bool, false, Option, Some, List, [], ◌∷◌, length, map, slice_get, count_by, sum_by, ◌+◌, ◌==◌, ◌||◌}
+use Rattle.std.specs.Prelude.{◌≡◌, ◌≤◌, ◌<◌, ℕ, ◌*◌, Bool, false, Option, Some, List, [], ◌∷◌, length, map, count_by, sum_by, ◌+◌, ◌==◌, ◌||◌}
 use Rattle.std.specs.List.{range_with_len}
 use Rattle.cluster_types.specs.declared.cluster.Cluster.{Cluster}
 use Rattle.cluster_types.specs.declared.graph_edges.Edges.{Edges}
@@ -9,7 +9,6 @@ use Rattle.cluster_types.specs.declared.journal.Event.{Event}
 use Rattle.cluster_types.specs.declared.journal.Promotion.{Promotion}
 use Rattle.cluster_types.specs.declared.placement.Decided.{Decided}
 use Rattle.cluster_types.specs.declared.placement.Decision.{Decision}
-use Rattle.cluster_types.specs.declared.placement.NoReason.{NoReason}
 use Rattle.cluster_types.specs.declared.placement.Placed.{Placed}
 use Rattle.cluster_types.specs.declared.rules.Colocation.{Colocation}
 use Rattle.cluster_types.specs.declared.rules.Order.{Order}
@@ -21,7 +20,7 @@ use Rattle.cluster_types.specs.NeededActions.{Needed}
 use Rattle.cluster_types.specs.Numbers.{AreNumbered, is_earlier}
 use Rattle.cluster_types.specs.Pins.{pin_of, pinned_targets}
 use Rattle.cluster_types.specs.Precedence.{must_precede}
-use Rattle.cluster_types.specs.Reasons.{HasReason}
+use Rattle.cluster_types.specs.Reasons.{HasReason, leaf_reason}
 use Rattle.cluster_types.specs.Steps.{Transition, numbered}
 use Rattle.cluster_types.specs.Tables.{Targets, targets_of}
 
@@ -34,7 +33,7 @@ module _ (c : Cluster) (es : List Event) (promotions : List Promotion) where
       ∷ with_totals (after_decision c es promotions table d) ds
 
   -- where everything goes, and why: the pinned leaves stay, the decisions choose in their order, what is held is taken away again, and a leaf
-  -- without a target has its reason
+  -- without a target that isn't pinned has its reason
   pub record IsPlaced (placed : Placed) : Type 0 where
     pub decisions : List Decision
     pub in_order : Decides c es promotions [] decisions
@@ -44,8 +43,8 @@ module _ (c : Cluster) (es : List Event) (promotions : List Promotion) where
     pub cells : length placed.table.targets ≡ length c.leaves * length c.nodes
     pub targets : AreTargets c es (after_decisions c es promotions (pinned_targets c es) decisions) (targets_of placed.table)
     pub leaves : length placed.none ≡ length c.leaves
-    pub reasons : (r : ℕ) (reason : Option NoReason) → slice_get placed.none r ≡ Some reason
-        → HasReason c es (after_decisions c es promotions (pinned_targets c es) decisions) (targets_of placed.table) r reason
+    pub reasons : (r : ℕ) → r < length c.leaves
+        → HasReason c es (after_decisions c es promotions (pinned_targets c es) decisions) (targets_of placed.table) r (leaf_reason placed.none r)
 
   -- the plan: what is placed, and the actions that are needed for it, in the order of their numbers
   pub record IsPlan (placed : Placed) (actions : List Action) : Type 0 where

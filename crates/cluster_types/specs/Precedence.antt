@@ -1,5 +1,5 @@
--- What the words of an order give, take and undo; what an action counts as; and Precedes as a test that can be computed (they agree:
--- `precedence_is_computed`).
+-- What the words of an order give, take and undo; what an action counts as; and `must_precede`, which is `Precedes` as a test (that they agree says
+-- `precedence_is_computed`). Plans and graphs speak of the test.
 use Rattle.std.specs.Prelude.{ℕ, nat_lt, ◌==◌, ◌&&◌, ◌||◌, Bool, true, false, not, if◌then◌else◌, Option, Some, None, List, [], ◌∷◌, length}
 use Rattle.std.specs.List.{list_any}
 use Rattle.cluster_types.specs.declared.cluster.Cluster.{Cluster}
@@ -67,27 +67,29 @@ sends r _ = false
 abbrev pub is_migrating : List Action → ℕ → Bool
 is_migrating actions r = list_any (sends r) actions
 
--- What an action counts as, and on which cell. An operation counts as itself; a migration takes the place of a stop and a start (Pacemaker Explained,
--- "Migrating Resources"). In an order its taking in counts, as the earlier, as the start on the target; its sending counts, as the later, as the start on the
--- target and as the stop on the source, and the stop of a leaf that migrates counts there as none. After a probe, after a fence and in a separation, too, its
--- sending counts, as the later, as the start on the target. In every other case a migration counts as no operation, and a stop as itself.
+-- What an action counts as, and on which cell: of which leaf, on which node. An operation counts as itself, and a migration as no operation. In four cases
+-- of `Precedes` it is otherwise, for a migration takes the place of a stop and a start (Pacemaker Explained, "Migrating Resources"):
+-- - `probe`, `fence`, `apart`, `order`: as the later, the sending of a leaf counts as the start on its target.
+-- - `order` alone: as the later, the sending counts as the stop on its source too, and the stop of a leaf that migrates counts as none; as the earlier, the
+--   taking in counts as the start on its target.
+-- The turns of a migration itself are the case `migration`.
 
--- as this operation, by itself
+-- the cell on which the action is this operation, by itself
 abbrev pub op_cell : Op → Action → Option LeafOnNode
 op_cell o (Operation p r n interval role) = if is_same_op o p then cell_of r n else None
 op_cell o _ = None
 
--- as a start, as the later of a pair
+-- the cell on which the action counts as a start, when it is the later of two
 abbrev pub start_cell : Action → Option LeafOnNode
 start_cell (MigrateTo r source target) = cell_of r target
 start_cell a = op_cell op.Start a
 
--- as this operation, as the earlier of a pair
+-- the cell on which the action counts as this operation, when it is the earlier by an order
 abbrev pub as_earlier : Op → Action → Option LeafOnNode
 as_earlier op.Start (MigrateFrom r source target) = cell_of r target
 as_earlier o a = op_cell o a
 
--- as this operation, as the later of a pair
+-- the cell on which the action counts as this operation, when it is the later by an order. Which leaves migrate is told by all actions that are needed
 abbrev pub as_later : List Action → Op → Action → Option LeafOnNode
 as_later actions op.Start a = start_cell a
 as_later actions op.Stop (MigrateTo r source target) = cell_of r source
@@ -95,17 +97,17 @@ as_later actions op.Stop (Operation op.Stop r n interval role) = if is_migrating
 as_later actions op.Stop _ = None
 as_later actions o a = op_cell o a
 
--- as what gives the leaf this role, as the later of a pair
+-- the cell on which the action gives the leaf this role, when it is the later of two
 abbrev pub gives_role : Role → Action → Option LeafOnNode
 gives_role role.Started a = start_cell a
 gives_role role.Promoted a = op_cell op.Promote a
 
--- as what gives it a role, whichever
+-- the same, whichever role it gives
 abbrev pub gives_any : Action → Option LeafOnNode
 gives_any (Operation op.Promote r n interval played) = gives_role role.Promoted (Operation op.Promote r n interval played)
 gives_any a = gives_role role.Started a
 
--- as the earlier of a pair: where it takes this role from the leaf, or probes for it
+-- the cell on which the action takes this role from the leaf, or probes for the leaf, when it is the earlier of two
 abbrev pub takes_or_probes : Role → Action → Option LeafOnNode
 takes_or_probes role.Started (Probe r n) = cell_of r n
 takes_or_probes role.Started a = op_cell op.Stop a
@@ -113,16 +115,16 @@ takes_or_probes role.Promoted (Probe r n) = cell_of r n
 takes_or_probes role.Promoted (Operation op.Demote r n interval role) = cell_of r n
 takes_or_probes role.Promoted a = op_cell op.Stop a
 
--- as a probe
+-- the cell that the action probes
 abbrev pub probe_cell : Action → Option LeafOnNode
 probe_cell (Probe r n) = cell_of r n
 probe_cell _ = None
 
--- as a start, stop, promote or demote, by itself
-abbrev pub change_cell : Action → Option LeafOnNode
-change_cell (Operation op.Monitor r n interval role) = None
-change_cell (Operation o r n interval role) = cell_of r n
-change_cell _ = None
+-- the cell on which the action is a start, stop, promote or demote, by itself
+abbrev pub step_cell : Action → Option LeafOnNode
+step_cell (Operation op.Monitor r n interval role) = None
+step_cell (Operation o r n interval role) = cell_of r n
+step_cell _ = None
 
 -- both cells are there, and stand so to each other
 abbrev pub both : (LeafOnNode → LeafOnNode → Bool) → Option LeafOnNode → Option LeafOnNode → Bool
@@ -139,7 +141,7 @@ abbrev pub is_some_cell : Option LeafOnNode → Bool
 is_some_cell (Some a) = true
 is_some_cell None = false
 
--- a probe of a leaf comes before its starts and promotes, on whatever node
+-- a probe of a leaf comes before what gives it a role, on whatever node
 abbrev pub probes_first : Action → Action → Bool
 probes_first x y = both is_one_leaf (probe_cell x) (gives_any y)
 
@@ -148,7 +150,7 @@ abbrev pub stops_first : Cluster → Action → Action → Bool
 stops_first c x y =
     both (λ a b. is_one_leaf a b && (a.node == b.node || nat_lt (copies c a.leaf) (length c.nodes))) (op_cell op.Stop x) (op_cell op.Start y)
 
--- a fence comes before each start and promote
+-- a fence comes before all that gives any leaf a role
 abbrev pub fences_first : Action → Action → Bool
 fences_first (Fence n) y = is_some_cell (gives_any y)
 fences_first _ y = false
@@ -158,7 +160,7 @@ abbrev pub comes_first_in_cell : Action → Action → Bool
 comes_first_in_cell x y =
     both is_one_cell (op_cell op.Demote x) (op_cell op.Stop y)
     || both is_one_cell (op_cell op.Start x) (op_cell op.Promote y)
-    || both is_one_cell (change_cell x) (op_cell op.Monitor y)
+    || both is_one_cell (step_cell x) (op_cell op.Monitor y)
 
 -- a demote or a stop comes before a promote of the same leaf, on whatever node
 abbrev pub demotes_first : Action → Action → Bool
@@ -206,13 +208,14 @@ is_ordered actions o x y =
 
 -- the one action is a start, stop, promote or demote of the order's first, the other one of its then, in scope
 abbrev pub is_across : Order → Action → Action → Bool
-is_across o x y = both (λ a b. a.leaf == o.first && b.leaf == o.then_leaf && is_in_scope o a.node b.node) (change_cell x) (change_cell y)
+is_across o x y = both (λ a b. a.leaf == o.first && b.leaf == o.then_leaf && is_in_scope o a.node b.node) (step_cell x) (step_cell y)
 
 -- by a Serialize order, in the order of their numbers
 abbrev pub is_serialized : (Action → Action → Bool) → Order → Action → Action → Bool
 is_serialized is_earlier o x y = is_serialize o.kind && (is_across o x y || is_across o y x) && is_earlier x y
 
--- of one migrating leaf: it is sent, then taken in, and then stopped on the source and watched on the target
+-- of one leaf that migrates: it is sent, then taken in, and then stopped on its source and watched on its target. A leaf migrates between one pair of nodes,
+-- so the nodes of the first two aren't compared
 abbrev pub migrates_first : Action → Action → Bool
 migrates_first (MigrateTo r source target) (MigrateFrom s from to) = r == s
 migrates_first (MigrateFrom r source target) (Operation op.Stop s n interval role) = r == s && n == source

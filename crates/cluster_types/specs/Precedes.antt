@@ -3,7 +3,7 @@
 use Rattle.std.specs.Prelude.{◌≡◌, ◌≢◌, ◌⊎◌, ◌<◌, ◌&&◌, ℕ, Bool, true, false, List, length, Contains}
 use Rattle.cluster_types.specs.declared.cluster.Cluster.{Cluster}
 use Rattle.cluster_types.specs.declared.journal.Action.{Action}
-use Rattle.cluster_types.specs.declared.journal.Action.TheVariants.{Fence, Probe, Operation, MigrateTo, MigrateFrom}
+use Rattle.cluster_types.specs.declared.journal.Action.TheVariants.{Fence, Probe}
 use Rattle.cluster_types.specs.declared.leaf.Op.{Op}
 use Rattle.cluster_types.specs.declared.leaf.Op.TheVariants as op
 use Rattle.cluster_types.specs.declared.leaf.Role.{Role}
@@ -11,23 +11,28 @@ use Rattle.cluster_types.specs.declared.rules.Colocation.{Colocation}
 use Rattle.cluster_types.specs.declared.rules.Order.{Order}
 use Rattle.cluster_types.specs.Choice.{is_separation}
 use Rattle.cluster_types.specs.Fields.{copies}
-use Rattle.cluster_types.specs.Precedence.{as_earlier, as_later, cell_of, gives_role, inverse, is_giving, is_serialize, op_cell, takers, takes_or_probes}
+use Rattle.cluster_types.specs.Precedence.{as_earlier, as_later, cell_of, gives_role, inverse, is_giving, is_serialize, migrates_first, op_cell, takers, takes_or_probes}
 use Rattle.cluster_types.specs.Tables.{is_in_scope}
 
--- What an action counts as on a leaf and a node is said in `Precedence`: by itself, as the earlier and as the later of a pair, and what it gives and takes.
+-- What an action counts as on a leaf and a node, by the functions of `Precedence`. Which case asks which of these is said by the cases below.
 
+-- by itself: a migration is no operation
 abbrev pub IsOperation : Op → Action → ℕ → ℕ → Type 0
 IsOperation o x r n = op_cell o x ≡ cell_of r n
 
+-- as the earlier by an order: the taking in of a migration is the start on its target
 abbrev pub CountsAsFirst : Op → Action → ℕ → ℕ → Type 0
 CountsAsFirst o x r n = as_earlier o x ≡ cell_of r n
 
+-- as the later by an order: the sending of a migration is the start on its target and the stop on its source, and the stop of a leaf that migrates is none
 abbrev pub CountsAsLater : List Action → Op → Action → ℕ → ℕ → Type 0
 CountsAsLater actions o y r n = as_later actions o y ≡ cell_of r n
 
+-- as the later that gives the leaf the role: the sending of a migration is the start on its target
 abbrev pub GivesRole : Role → Action → ℕ → ℕ → Type 0
 GivesRole given y r n = gives_role given y ≡ cell_of r n
 
+-- as the earlier that takes the role from the leaf, or probes for it: a migration does neither
 abbrev pub TakesOrProbes : Role → Action → ℕ → ℕ → Type 0
 TakesOrProbes taken x r n = takes_or_probes taken x ≡ cell_of r n
 
@@ -49,7 +54,7 @@ pub data PutsFirst (o : Order) : Op → ℕ → Op → ℕ → Type 0 where
   -- where it is symmetrical and both words give a role: what takes the then's role before what takes the first's
   back : (p q : Op) → o.symmetrical ≡ true → is_giving o.first_op && is_giving o.then_op ≡ true → Contains (takers o.then_op) p → Contains (takers o.first_op) q
       → PutsFirst o p o.then_leaf q o.first
-  -- where it is symmetrical and a word takes a role: the inverse of the then's word before the inverse of the first's
+  -- where it is symmetrical and not both words give a role: the inverse of the then's word before the inverse of the first's
   turned : o.symmetrical ≡ true → is_giving o.first_op && is_giving o.then_op ≡ false → PutsFirst o (inverse o.then_op) o.then_leaf (inverse o.first_op) o.first
 
 -- the two leaves of an order, from either end
@@ -57,23 +62,16 @@ pub data AreEnds (o : Order) : ℕ → ℕ → Type 0 where
   first_and_then : AreEnds o o.first o.then_leaf
   then_and_first : AreEnds o o.then_leaf o.first
 
--- of one leaf that migrates: it is sent, then taken in, and then stopped on its source and watched on its target. A leaf migrates between one pair of
--- nodes, so from and to are source and target
-pub data MigratesInTurn : Action → Action → Type 0 where
-  taken_in_later : (r source target from to : ℕ) → MigratesInTurn (MigrateTo r source target) (MigrateFrom r from to)
-  stopped_later : (r source target interval : ℕ) (role : Role) → MigratesInTurn (MigrateFrom r source target) (Operation op.Stop r source interval role)
-  watched_later : (r source target interval : ℕ) (role : Role) → MigratesInTurn (MigrateFrom r source target) (Operation op.Monitor r target interval role)
-
 -- the first action must have succeeded before the other may begin. The actions are all that are needed, and is_earlier is the order of their numbers
 module _ (c : Cluster) (actions : List Action) (is_earlier : Action → Action → Bool) where
   pub data Precedes : Action → Action → Type 0 where
-    -- a leaf is probed, on every node, before it is started or promoted on any ("Monitoring Resources for Failure": probes show that it runs nowhere else)
+    -- a leaf is probed, on every node, before it is started, sent to or promoted on any ("Monitoring Resources for Failure": probes show that it runs nowhere else)
     probe : (r n m : ℕ) (given : Role) (y : Action) → GivesRole given y r m → Precedes (Probe r n) y
     -- a leaf is stopped on a node before it is started there, and where it has fewer copies than there are nodes before it is started anywhere
     stop : (r n m : ℕ) (x y : Action) → IsOperation op.Stop x r n → IsOperation op.Start y r m → (n ≡ m) ⊎ (copies c r < length c.nodes) → Precedes x y
-    -- a node is fenced before anything is started or promoted ("Fencing": what ran on it is down for sure)
+    -- a node is fenced before any leaf is started, sent or promoted anywhere ("Fencing": what ran on it is down for sure)
     fence : (n r m : ℕ) (given : Role) (y : Action) → GivesRole given y r m → Precedes (Fence n) y
-    -- on one cell each operation has its turn
+    -- on one cell a demote comes before a stop, a start before a promote, and all four before a monitor
     same_cell : (r n : ℕ) (o p : Op) (x y : Action) → ComesFirstOnCell o p → IsOperation o x r n → IsOperation p y r n → Precedes x y
     -- a leaf is demoted or stopped, on every node, before it is promoted on any ("Promotable Clones": no more are promoted than may be)
     demote : (r n m : ℕ) (p : Op) (x y : Action) → Contains (takers op.Promote) p → IsOperation p x r n → IsOperation op.Promote y r m → Precedes x y
@@ -83,9 +81,9 @@ module _ (c : Cluster) (actions : List Action) (is_earlier : Action → Action �
     -- what an order puts first comes first, in its scope ("Specifying the Order in which Resources Should Start/Stop", kinds Mandatory and Optional)
     order : (o : Order) (p q : Op) (r s n m : ℕ) (x y : Action) → Contains c.orders o → is_serialize o.kind ≡ false → PutsFirst o p r q s
         → CountsAsFirst p x r n → CountsAsLater actions q y s m → is_in_scope o n m ≡ true → Precedes x y
-    -- of two starts, stops, promotes or demotes of an order's leaves, which must not go on at once whatever its words, the lower number comes first (the same
-    -- section, kind Serialize)
+    -- of two starts, stops, promotes or demotes, one of each side of an order and in its scope, the lower number comes first, whatever the order's words: they
+    -- must not go on at once (the same section, kind Serialize). Of an order of a leaf with itself both are of that leaf
     serialize : (o : Order) (p q : Op) (r s n m : ℕ) (x y : Action) → Contains c.orders o → is_serialize o.kind ≡ true → AreEnds o r s
         → p ≢ op.Monitor → q ≢ op.Monitor → IsOperation p x r n → IsOperation q y s m → is_in_scope o n m ≡ true → is_earlier x y ≡ true → Precedes x y
     -- a migration has its turns ("Migrating Resources")
-    migration : (x y : Action) → MigratesInTurn x y → Precedes x y
+    migration : (x y : Action) → migrates_first x y ≡ true → Precedes x y

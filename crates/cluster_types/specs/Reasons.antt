@@ -1,5 +1,5 @@
 -- Why a leaf has no target (rule of this project).
-use Rattle.std.specs.Prelude.{◌≡◌, ◌⊎◌, ℕ, ◌<◌, ◌==◌, Bool, true, false, not, if◌then◌else◌, Option, Some, None, List, ◌∷◌, ◌++◌, length}
+use Rattle.std.specs.Prelude.{◌≡◌, ◌⊎◌, ℕ, ◌<◌, ◌==◌, Bool, true, false, not, if◌then◌else◌, Option, Some, None, unwrap_or, List, ◌∷◌, ◌++◌, length, slice_get}
 use Rattle.std.specs.List.{list_all, range_with_len, AllByRecursion}
 use Rattle.cluster_types.specs.declared.cluster.Cluster.{Cluster}
 use Rattle.cluster_types.specs.declared.journal.Event.{Event}
@@ -18,6 +18,10 @@ use Rattle.cluster_types.specs.Pins.{is_pinned}
 use Rattle.cluster_types.specs.Rights.{may_start}
 use Rattle.cluster_types.specs.Tables.{Targets, is_somewhere}
 use Rattle.cluster_types.specs.Precedence.{is_giving}
+
+-- why a leaf has no target, by a list that says it of each leaf. Of one that the list doesn't have nothing is said
+abbrev pub leaf_reason : List (Option NoReason) → ℕ → Option NoReason
+leaf_reason reasons r = unwrap_or (slice_get reasons r) None
 
 -- x is the first of the list for which P holds
 pub record IsFirstOf {X : Type 0} (P : X → Type 0) (xs : List X) (x : X) : Type 0 where

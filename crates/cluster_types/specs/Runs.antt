@@ -29,6 +29,32 @@ journal_at (due number es) = es
 journal_at (amid number t since) = journal t since
 journal_at (idle number es) = es
 
+-- here an answer is asked for
+abbrev pub IsAsking : RunStanding → Type 0
+IsAsking (due k es) = ⊥
+IsAsking (amid k t since) = IsWaiting t since
+IsAsking (idle k es) = ⊤
+
+-- the answer applies here
+abbrev pub AppliesAt : Cluster → RunStanding → Answer → Type 0
+AppliesAt c (due k es) given = ⊥
+AppliesAt c (amid k t since) given = Applies t since given
+AppliesAt c (idle k es) given = Applies (idling c es) [] given
+
+-- in no transition: the next, or the first, is due, or nothing is to be done
+abbrev pub IsBetween : RunStanding → Type 0
+IsBetween (due k es) = ⊤
+IsBetween (amid k t since) = ⊥
+IsBetween (idle k es) = ⊤
+
+-- at most the line that ends a transition: it isn't printed yet, whether the transition has ended or not; or the transition has ended, and it is printed
+pub data EndsByLine : RunStanding → List RunLine → RunStanding → Type 0 where
+  not_yet : (at : RunStanding) → EndsByLine at [] at
+  complete : (k : ℕ) (t : Transition) (since : List Event) → HasEnded t since → has_aborted t since ≡ false
+      → EndsByLine (amid k t since) (line.Complete k ∷ []) (idle k (journal t since))
+  aborted : (k : ℕ) (t : Transition) (since : List Event) → HasEnded t since → has_aborted t since ≡ true
+      → EndsByLine (amid k t since) (line.Aborted k ∷ []) (due (k + 1) (journal t since))
+
 -- of a cluster with its promotion scores. Where the answers to come are told, `whole` says that they are all (see `Says`); None is where they aren't
 module _ (c : Cluster) (promotions : List Promotion) (whole : Bool) where
   -- one step of a run: from where it stands and the answers to come, the lines that it prints, to where it stands then and the answers that are left
@@ -57,18 +83,6 @@ module _ (c : Cluster) (promotions : List Promotion) (whole : Bool) where
     one_more : (at next later : RunStanding) (rest middle left : Option (List Answer)) (lines more : List RunLine) → RunsOn at rest lines next middle
         → Runs next middle more later left → Runs at rest (lines ++ more) later left
 
-  -- here an answer is asked for
-  abbrev pub IsAsking : RunStanding → Type 0
-  IsAsking (due k es) = ⊥
-  IsAsking (amid k t since) = IsWaiting t since
-  IsAsking (idle k es) = ⊤
-
-  -- the answer applies here
-  abbrev pub AppliesAt : RunStanding → Answer → Type 0
-  AppliesAt (due k es) given = ⊥
-  AppliesAt (amid k t since) given = Applies t since given
-  AppliesAt (idle k es) given = Applies (idling c es) [] given
-
   -- the run is over: nothing is to be done, and nothing more is said
   abbrev pub IsOver : RunStanding → Option (List Answer) → Type 0
   IsOver (idle k es) rest = Says whole rest None rest
@@ -78,7 +92,7 @@ module _ (c : Cluster) (promotions : List Promotion) (whole : Bool) where
   pub record IsCutAt (at : RunStanding) (rest : Option (List Answer)) (given : Answer) (left : Option (List Answer)) : Type 0 where
     pub asking : IsAsking at
     pub said : Says whole rest (Some given) left
-    pub refused : ¬ AppliesAt at given
+    pub refused : ¬ AppliesAt c at given
 
   -- the whole run from a journal on, of these answers: its lines, and the journal that it leaves. Where the answers are told, all of them were taken
   pub record IsWholeRun (es : List Event) (rest : Option (List Answer)) (lines : List RunLine) (journal_now : List Event) : Type 0 where
@@ -108,16 +122,8 @@ module _ (c : Cluster) (promotions : List Promotion) (whole : Bool) where
   abbrev pub IsRunUpTo : ℕ → List Event → Option (List Answer) → List RunLine → List Event → Option (List Answer) → Type 0
   IsRunUpTo most es rest lines journal_now behind = Runs (due 1 es) rest lines (due (most + 1) journal_now) behind
 
-  -- at most one step, that which ends a transition: either nothing happens, or the transition has ended and its last line is printed
-  pub data EndsByLine : RunStanding → List RunLine → RunStanding → Type 0 where
-    not_yet : (at : RunStanding) → EndsByLine at [] at
-    complete : (k : ℕ) (t : Transition) (since : List Event) → HasEnded t since → has_aborted t since ≡ false
-        → EndsByLine (amid k t since) (line.Complete k ∷ []) (idle k (journal t since))
-    aborted : (k : ℕ) (t : Transition) (since : List Event) → HasEnded t since → has_aborted t since ≡ true
-        → EndsByLine (amid k t since) (line.Aborted k ∷ []) (due (k + 1) (journal t since))
-
-  -- the run from a journal on, stopped by the one to whom it tells its lines: those told before, those of the step at which it was stopped, and at most the
-  -- line that ends the transition right after that step; the journal that it leaves, and the answers behind it
+  -- the run from a journal on, as one may stop it to whom it tells its lines: those told before, those of one step more, and at most the line that ends the
+  -- transition right after that step; the journal that it leaves, and the answers behind it
   pub record IsStoppedRun (es : List Event) (rest : Option (List Answer)) (told call closing : List RunLine) (journal_now : List Event) (behind : Option (List Answer)) : Type 0 where
     pub before : RunStanding
     pub next : RunStanding
@@ -127,9 +133,3 @@ module _ (c : Cluster) (promotions : List Promotion) (whole : Bool) where
     pub stopped : RunsOn before middle call next behind
     pub closes : EndsByLine next closing last
     pub leaves : journal_now ≡ journal_at last
-
-  -- in no transition: the next, or the first, is due, or nothing is to be done
-  abbrev pub IsBetween : RunStanding → Type 0
-  IsBetween (due k es) = ⊤
-  IsBetween (amid k t since) = ⊥
-  IsBetween (idle k es) = ⊤

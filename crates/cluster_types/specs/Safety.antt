@@ -54,14 +54,15 @@ abbrev pub is_gone : Event → Bool
 is_gone (Ended k a Gone moment) = true
 is_gone _ = false
 
--- the event comes while the transition waits: an answer adds it, or a silent end. So it is no begin, and no end of an action that is gone with its node: the
--- loss, which follows, stands for those
+-- of the events that a transition adds, those that come while it waits, by an answer or a silent end: no begin is, and no end of an action that is gone with its
+-- node, since the loss, which follows, stands for those
 abbrev pub is_answered : Event → Bool
 is_answered (Begin k a) = false
 is_answered (Ended k a Gone moment) = false
 is_answered _ = true
 
--- the events up to the last that isn't the end of a gone action
+-- the events up to the last that isn't the end of a gone action. A loss adds the ends of what is gone, and then itself: without them, the events before it are
+-- those at which the answer was taken
 abbrev pub without_gone : List Event → List Event
 without_gone [] = []
 without_gone (e ∷ es) = if list_all is_gone (e ∷ es) then [] else e ∷ without_gone es
@@ -72,51 +73,54 @@ state_of_target target.Nowhere = cell.Off
 state_of_target target.Started = cell.On
 state_of_target target.Promoted = cell.Promoted
 
+-- what an action must find so when it begins, by the journal so far
+module _ (c : Cluster) where
+  -- the leaf may run on fewer other nodes than it has copies. Of a plain resource: on none
+  abbrev pub MayRunOnFewOthers : LeafOnNode → List Event → Type 0
+  MayRunOnFewOthers at es = count_of_others c at.node (λ m. may_be_running c at.leaf m es) < copies c at.leaf
+
+  -- it may be promoted on fewer other nodes than it has promoted copies
+  abbrev pub MayBePromotedOnFewOthers : LeafOnNode → List Event → Type 0
+  MayBePromotedOnFewOthers at es = count_of_others c at.node (λ m. may_be_promoted c at.leaf m es) < promoted_copies c at.leaf
+
+  -- where the action gives the one leaf its role on a node, it can't be that the other has its own there
+  abbrev pub OtherIsAway : Action → ℕ → Role → ℕ → Role → List Event → Type 0
+  OtherIsAway a r r_role s s_role es = IfSome (gives_role r_role a) (λ at. at.leaf ≡ r → may_have_role c s s_role at.node es ≡ false)
+
+  -- a migration has its leaf to itself: where it sends, the leaf may run on no node but the source, and where it takes in, on none but the source and the
+  -- target
+  abbrev pub HasItsLeafAlone : Action → List Event → Type 0
+  HasItsLeafAlone (MigrateTo r source to) es = (m : ℕ) → m < length c.nodes → m ≢ source → may_be_running c r m es ≡ false
+  HasItsLeafAlone (MigrateFrom r source to) es = (m : ℕ) → m < length c.nodes → m ≢ source → m ≢ to → may_be_running c r m es ≡ false
+  HasItsLeafAlone _ es = ⊤
+
 module _ (t : Transition) where
   -- predecessors first: no action begins before all that must precede it have succeeded
   abbrev pub PredecessorsFirst : List Event → Type 0
   PredecessorsFirst events =
       AtEachBegin (λ before k a. (j : ℕ) → 0 < j → j ≤ length t.actions → t.precedes j k ≡ true → has_succeeded t before j ≡ true) events
 
-  -- no copy too many: where a start or a promote of a leaf begins on a node, the leaf may run on fewer other nodes than it has copies. Of a plain
-  -- resource there is none
-  abbrev pub HasRoomForCopy : List Event → LeafOnNode → Type 0
-  HasRoomForCopy before at = count_of_others t.cluster at.node (λ m. may_be_running t.cluster at.leaf m (journal t before)) < copies t.cluster at.leaf
-
+  -- no copy too many: where a start or a promote of a leaf begins on a node, the leaf may run on fewer other nodes than it has copies
   abbrev pub NoSecondCopy : List Event → Type 0
   NoSecondCopy events =
-      AtEachBegin (λ before k a. IfSome (op_cell op.Start a) (HasRoomForCopy before) × IfSome (op_cell op.Promote a) (HasRoomForCopy before)) events
+      AtEachBegin (λ before k a. IfSome (op_cell op.Start a) (λ at. MayRunOnFewOthers t.cluster at (journal t before))
+      × IfSome (op_cell op.Promote a) (λ at. MayRunOnFewOthers t.cluster at (journal t before))) events
 
   -- no promoted copy too many: where a promote of a leaf begins on a node, the leaf may be promoted on fewer other nodes than it has promoted copies
-  abbrev pub HasRoomForPromoted : List Event → LeafOnNode → Type 0
-  HasRoomForPromoted before at =
-      count_of_others t.cluster at.node (λ m. may_be_promoted t.cluster at.leaf m (journal t before)) < promoted_copies t.cluster at.leaf
-
   abbrev pub NoSecondPromotion : List Event → Type 0
-  NoSecondPromotion events = AtEachBegin (λ before k a. IfSome (op_cell op.Promote a) (HasRoomForPromoted before)) events
+  NoSecondPromotion events =
+      AtEachBegin (λ before k a. IfSome (op_cell op.Promote a) (λ at. MayBePromotedOnFewOthers t.cluster at (journal t before))) events
 
-  -- no forbidden neighbour: where two leaves must be apart and the one is given its role on a node, it can't be that the other has its own there
-  abbrev pub StaysApart : List Event → Action → ℕ → Role → ℕ → Role → Type 0
-  StaysApart before a r r_role s s_role =
-      IfSome (gives_role r_role a) (λ at. at.leaf ≡ r → may_have_role t.cluster s s_role at.node (journal t before) ≡ false)
-
+  -- no forbidden neighbour: of two leaves that must be apart neither is given its role on a node where it may be that the other has its own
   abbrev pub NoForbiddenNeighbour : List Event → Type 0
   NoForbiddenNeighbour events =
       AtEachBegin (λ before k a. (col : Colocation) → Contains t.cluster.colocations col → is_separation col ≡ true
-      → StaysApart before a col.dependent col.dependent_role col.primary col.primary_role
-      × StaysApart before a col.primary col.primary_role col.dependent col.dependent_role) events
+      → OtherIsAway t.cluster a col.dependent col.dependent_role col.primary col.primary_role (journal t before)
+      × OtherIsAway t.cluster a col.primary col.primary_role col.dependent col.dependent_role (journal t before)) events
 
-  -- a migration has its leaf to itself: where it sends, the leaf may run on no node but the source, and where it takes in, on none but the source and
-  -- the target
-  abbrev pub MigratesAlone : List Event → Action → Type 0
-  MigratesAlone before (MigrateTo r source to) =
-      (m : ℕ) → m < length t.cluster.nodes → m ≢ source → may_be_running t.cluster r m (journal t before) ≡ false
-  MigratesAlone before (MigrateFrom r source to) =
-      (m : ℕ) → m < length t.cluster.nodes → m ≢ source → m ≢ to → may_be_running t.cluster r m (journal t before) ≡ false
-  MigratesAlone before _ = ⊤
-
+  -- each migration has its leaf to itself
   abbrev pub MigrationsAlone : List Event → Type 0
-  MigrationsAlone events = AtEachBegin (λ before k a. MigratesAlone before a) events
+  MigrationsAlone events = AtEachBegin (λ before k a. HasItsLeafAlone t.cluster a (journal t before)) events
 
   -- eager and caused: an answer is taken, or an action ends silently, only where no action may begin and something is in flight; no number begins twice,
   -- and what begins is the action of its number; none begins after an abort; and where nothing aborted, nothing is in flight and none may begin, all have
@@ -129,7 +133,7 @@ module _ (t : Transition) where
     pub none_after_abort : AtEachBegin (λ before k a. has_aborted t before ≡ false) events
     pub never_stuck : has_aborted t events ≡ false → numbers_in_flight t events ≡ [] → is_settled t events ≡ true → all_succeeded t events ≡ true
 
-  -- all that holds at every moment of a transition
+  -- what is safe at every moment of a transition
   pub record IsSafe (events : List Event) : Type 0 where
     pub predecessors : PredecessorsFirst events
     pub copies : NoSecondCopy events

@@ -72,8 +72,8 @@ is_from_outside _ = false
 abbrev pub numbered : List Action → ℕ → Option Action
 numbered actions k = if k == 0 then None else slice_get actions (k - 1)
 
--- a transition: the cluster, its actions in the order of their numbers, which of two numbers must have succeeded before the other begins, and
--- the journal when it was planned
+-- a transition: the cluster; its actions, in the order of their numbers; whether the action of the one number must have succeeded before that of the other
+-- begins; and the journal when it was planned
 pub record Transition : Type 0 where
   pub cluster : Cluster
   pub actions : List Action
@@ -127,8 +127,8 @@ module _ (t : Transition) where
     abbrev pub is_settled : Bool
     is_settled = not (list_any may_begin numbers)
 
-    -- what is in flight, by number: each number in flight with its action. Where nothing was in flight
-    -- when it was planned, the same actions are in flight by begin (`both_say_what_is_in_flight` of crate `run_safety`)
+    -- what is in flight, by number: each number in flight with its action. If nothing was in flight when it was planned, and it went by its steps since, then
+    -- the same actions are in flight by begin (`both_say_what_is_in_flight` of crate `run_safety`)
     abbrev pub in_flight_by_number : List (ℕ × Action)
     in_flight_by_number = flat_map (λ k. option_map_or (λ a. (k, a) ∷ []) (action_at k) []) numbers_in_flight
 
@@ -192,10 +192,10 @@ module _ (t : Transition) where
         → StepsOn whole since rest (ended since k (Code (silent_code a))) left
 
   -- step by step, from the events since it was planned and the answers to come to later events and the answers that are left then
-  pub data Goes (whole : Bool) : List Event → Option (List Answer) → List Event → Option (List Answer) → Type 0 where
-    here : (since : List Event) (rest : Option (List Answer)) → Goes whole since rest since rest
+  pub data GoesBySteps (whole : Bool) : List Event → Option (List Answer) → List Event → Option (List Answer) → Type 0 where
+    here : (since : List Event) (rest : Option (List Answer)) → GoesBySteps whole since rest since rest
     one_more : (since events later : List Event) (rest middle left : Option (List Answer)) → StepsOn whole since rest events middle
-        → Goes whole (since ++ events) middle later left → Goes whole since rest later left
+        → GoesBySteps whole (since ++ events) middle later left → GoesBySteps whole since rest later left
 
 -- a transition without actions: what applies in it, applies while nothing is to be done (rule of this project)
 abbrev pub idling : Cluster → List Event → Transition

@@ -5,7 +5,7 @@ use Rattle.std.specs.List.{list_any, flat_map, range_with_len}
 use Rattle.std.specs.Option.{option_map_or}
 use Rattle.std.specs.Ordering.{int_eq}
 use Rattle.date_rules.specs.Rule.{holds}
-use Rattle.edges.specs.Chains.{Chain, IsLinked}
+use Rattle.edges.specs.Chains.{Chain, IsLinked, leads_through}
 use Rattle.score.specs.Total.{infinity, minus_infinity, total_of}
 use Rattle.cluster_types.specs.declared.cluster.Cluster.{Cluster}
 use Rattle.cluster_types.specs.declared.journal.Event.{Event}
@@ -60,14 +60,18 @@ module _ (c : Cluster) where
   abbrev pub IsTied : ℕ → ℕ → Type 0
   IsTied s r = Chain IsTieLink s r
 
-  -- the same, computed, over chains of so many ties at most. As many as there are leaves are enough (`ties_are_computed` of crate `loops`)
-  abbrev pub is_tied : ℕ → ℕ → ℕ → Bool
-  is_tied zero s r = false
-  is_tied (suc most) s r = list_any (λ col. is_tie col && col.dependent == s && (col.primary == r || is_tied most col.primary r)) c.colocations
+  -- a tie puts s with r, as a test
+  abbrev pub is_tied_at_once : ℕ → ℕ → Bool
+  is_tied_at_once s r = list_any (λ col. is_tie col && col.dependent == s && col.primary == r) c.colocations
+
+  -- s must be with r through a chain of ties, as a test: at once, or through leaves that are tied in turn. It says what IsTied says where the leaves of all
+  -- colocations are there (`ties_are_computed` of crate `loops`)
+  abbrev pub is_tied : ℕ → ℕ → Bool
+  is_tied s r = leads_through is_tied_at_once (range_with_len 0 (length c.leaves)) s r
 
   -- the leaves that must be with r through a chain of ties, in their order
   abbrev pub lenders : ℕ → List ℕ
-  lenders r = filter (λ s. is_tied (length c.leaves) s r) (range_with_len 0 (length c.leaves))
+  lenders r = filter (λ s. is_tied s r) (range_with_len 0 (length c.leaves))
 
 module _ (c : Cluster) (es : List Event) where
   -- a rule holds at a node and the moment of the journal

@@ -32,6 +32,8 @@ use Rattle.cluster_types.specs.declared.run.RunLine.{RunLine}
 use Rattle.cluster_types.specs.declared.run.RunLine.TheVariants as line
 use Rattle.cluster_types.specs.Decisions.{leaf_of}
 use Rattle.cluster_types.specs.Fields.{leaf_name}
+use Rattle.cluster_types.specs.Pins.{leaf_pin}
+use Rattle.cluster_types.specs.Reasons.{leaf_reason}
 use Rattle.cluster_types.specs.Tables.{targets_of}
 
 abbrev pub node_name : Cluster → ℕ → List ℕ
@@ -45,7 +47,7 @@ op_word Demote = codes "demote "
 op_word Monitor = codes "monitor "
 
 -- what an event of a transition, or one that comes between two, prints: a begin, an end, or the answer that it came from. What is gone with its node
--- has no line, since the node's loss has one. An end of number 0 is a report
+-- has no line, since the node's loss has one. An end of number 0, with a code of a monitor, is a report
 abbrev pub event_lines : Event → List RunLine
 event_lines (Begin k a) = line.Begin k a ∷ []
 event_lines (Ended zero (Operation Monitor r n interval role) (Code code) moment) = line.Taken (answer.Report n r interval code) ∷ []
@@ -132,9 +134,9 @@ module _ (c : Cluster) where
   -- the target lines of a leaf: why it is left as it is, its targets in node order, and why it has none
   abbrev pub leaf_lines : List (Option Pin) → (ℕ → ℕ → Target) → List (Option NoReason) → ℕ → List RunLine
   leaf_lines pins targets reasons r =
-      pin_lines r (unwrap_or (slice_get pins r) None)
+      pin_lines r (leaf_pin pins r)
       ++ flat_map (λ n. goal_lines r n (targets r n)) (range_with_len 0 (length c.nodes))
-      ++ lacking_lines r (unwrap_or (slice_get reasons r) None)
+      ++ lacking_lines r (leaf_reason reasons r)
 
   -- the target lines of all leaves, in their order
   abbrev pub target_lines : List (Option Pin) → (ℕ → ℕ → Target) → List (Option NoReason) → List RunLine

@@ -41,7 +41,7 @@ MayHaveWord c r Monitor = ⊥
 pub record IsValidNode (node : Node) : Type 0 where
   pub name : is_name node.name ≡ true
 
--- a leaf that isn't cloned has one copy, and its monitors have different intervals above 0
+-- a leaf that isn't cloned has one copy; and each leaf has at most 8 monitors, of different intervals above 0
 pub record IsValidLeaf (leaf : Leaf) : Type 0 where
   pub name : is_name leaf.name ≡ true
   pub copies : leaf.cloned ≡ false → leaf.copies ≡ 1

@@ -2,15 +2,18 @@
 
 ghost use Rattle.std.specs.Prelude.{◌≡◌, ◌≢◌, ◌↔◌, ◌<◌, ◌≤◌, ◌+◌, ◌*◌, ◌^◌, Contains, ℕ, Bool, true, false, length, not, slice_get, Option, Some, ◌&&◌, ◌||◌, List, [], ◌∷◌, ◌++◌};
 ghost use Rattle.std.specs.List.{list_all};
+ghost use Rattle.cluster_types.specs.declared.leaf.Op.{Op};
+ghost use Rattle.cluster_types.specs.declared.leaf.Op.TheVariants as op;
 ghost use Rattle.cluster_types.specs.declared.placement.Decision.{Decision as DecisionOf};
+ghost use Rattle.cluster_types.specs.declared.rules.Order.{Order};
 ghost use Rattle.cluster_types.specs.Held.{Held};
 ghost use Rattle.cluster_types.specs.LeastSets.{IsClosedUnderCycling, IsClosedUnderHolding};
 ghost use Rattle.cluster_types.specs.NeededActions as cycling;
-ghost use Rattle.cluster_types.specs.Numbers.{AreNumbered};
-ghost use Rattle.cluster_types.specs.Precedence.{must_precede};
-ghost use Rattle.cluster_types.specs.Precedes.{Precedes};
+ghost use Rattle.cluster_types.specs.Numbers.{AreNumbered, leaf_links, link, order_links};
+ghost use Rattle.cluster_types.specs.Precedence.{is_serialize, must_precede};
+ghost use Rattle.cluster_types.specs.Precedes.{ComesFirstOnCell, Precedes, PutsFirst};
 ghost use Rattle.cluster_types.specs.Safety.{IsEager, PredecessorsFirst};
-ghost use Rattle.cluster_types.specs.Steps.{Applies, EndsSilently, Goes, Transition, ended, answer_events, in_flight_by_number, journal, idling, silent_code, silent_end};
+ghost use Rattle.cluster_types.specs.Steps.{Applies, EndsSilently, GoesBySteps, Transition, ended, answer_events, in_flight_by_number, journal, idling, silent_code, silent_end};
 ghost use Rattle.cluster_types.specs.declared.journal.Outcome.TheVariants as outcome;
 ghost use Rattle.cluster_types.specs.Tables.{Targets, is_somewhere, load_of, with_cell};
 ghost use Rattle.cluster_types.specs.Failures.{is_fail_stopped};
@@ -32,7 +35,7 @@ pub fn may_after_one_more()
         → may_be_running c leaf node (events ++ e ∷ []) ≡ opens c leaf node e || may_be_running c leaf node events && not (closes c leaf node e) }
 {}
 
-/// The same for where a leaf may be promoted.
+/// The same for where a leaf is left promoted, by the events.
 pub fn promoted_after_one_more()
     ensures { (c : Cluster) (leaf node : ℕ) (events : List Event) (e : Event)
         → is_left_promoted c leaf node (events ++ e ∷ [])
@@ -56,13 +59,14 @@ pub fn first_journal_is_in_order()
         → list_all (is_history_event (length c.nodes)) history ≡ true → Orderly (first_events c history words quorum now) }
 {}
 
-/// Of a graph is computed what its edges say: one action comes before another when the edges lead from it to the other through gates
+/// Of edges that make a graph is computed what they say: one action comes before another when the edges lead from it to the other through gates
 /// alone, and only then.
 pub fn paths_are_computed()
     ensures { (g : GraphOf) (x y : ℕ) → IsGraph g → is_before g x y ≡ true ↔ IsBefore g x y }
 {}
 
-/// Edges along which some height rises make a graph, where the heights of its actions are in the order of their numbers.
+/// Edges between the positions, upward where they lead to a gate, make a graph when some height rises along each of them, and the heights of its actions are
+/// in the order of their numbers.
 pub fn rising_edges_make_a_graph()
     ensures { (g : GraphOf) (height : ℕ → ℕ) → length g.actions ≤ g.edges.positions → EndsWithin g.edges.positions g.edges.list
         → LeadUpward (length g.actions) g.edges.list → ((e : Edge) → Contains g.edges.list e → height e.before < height e.after)
@@ -77,7 +81,7 @@ pub fn held_is_the_least_set()
         → (d : DecisionOf) (node : ℕ) → Held c events table d node → set d node ≡ true }
 {}
 
-/// The same of the cells that are stopped and started again.
+/// The same of the cycled cells.
 pub fn cycled_is_the_least_set()
     ensures closed { (c : Cluster) (events : List Event) (targets : Targets) → IsClosedUnderCycling c events targets (cycling.Cycled c events targets) }
     ensures least { (c : Cluster) (events : List Event) (targets : Targets) (set : ℕ → ℕ → Bool)
@@ -91,7 +95,15 @@ pub fn precedence_is_computed()
         → must_precede c actions is_earlier x y ≡ true ↔ Precedes c actions is_earlier x y }
 {}
 
-/// The actions that are needed have one list in the order of their numbers, and each action stands at one position of it.
+/// The links by which steps are ranked are those that precede: a link of an order is what the order puts first (a Serialize order has none), and a link of a
+/// leaf is what comes first on a cell of it, but for monitors, which have no rank.
+pub fn links_are_what_comes_first()
+    ensures of_order { (o : Order) (p q : Op) (r s : ℕ) → is_serialize o.kind ≡ false → Contains (order_links o) (link p r q s) ↔ PutsFirst o p r q s }
+    ensures of_serialize { (o : Order) → is_serialize o.kind ≡ true → order_links o ≡ [] }
+    ensures of_leaf { (leaf : ℕ) (o p : Op) → p ≢ op.Monitor → Contains (leaf_links leaf) (link o leaf p leaf) ↔ ComesFirstOnCell o p }
+{}
+
+/// The actions that are needed have one list at most in the order of their numbers, and each action stands at one position of it.
 pub fn numbers_are_unique()
     ensures one_list { (c : Cluster) (events : List Event) (targets : Targets) (xs ys : List Action)
         → AreNumbered c (cycling.Needed c events targets) xs → AreNumbered c (cycling.Needed c events targets) ys → xs ≡ ys }
@@ -102,14 +114,15 @@ pub fn numbers_are_unique()
 /// Predecessors first: whatever answers come, no action of a transition begins before all that must precede it have succeeded.
 pub fn predecessors_first()
     ensures { (t : Transition) (whole : Bool) (rest left : Option (List Answer)) (later : List Event)
-        → Goes t whole [] rest later left → PredecessorsFirst t later }
+        → GoesBySteps t whole [] rest later left → PredecessorsFirst t later }
 {}
 
-/// Eager and caused: whatever answers come, one is taken only where no action may begin, each action begins once, none begins after an abort, and where
-/// nothing aborted and nothing is left to wait for, all have succeeded. For the last, actions wait for those of lower numbers alone.
+/// Eager and caused: whatever answers come, one is taken only where no action may begin and something is in flight; each number begins once at most, and what
+/// begins is the action of its number; none begins after an abort; and where nothing aborted and nothing is left to wait for, all have succeeded. All this where
+/// actions wait for those of lower numbers alone.
 pub fn transitions_are_eager()
     ensures { (t : Transition) (whole : Bool) (rest left : Option (List Answer)) (later : List Event)
-        → ((j k : ℕ) → t.precedes j k ≡ true → j < k) → Goes t whole [] rest later left → IsEager t later }
+        → ((j k : ℕ) → t.precedes j k ≡ true → j < k) → GoesBySteps t whole [] rest later left → IsEager t later }
 {}
 
 /// What a journal tells has an entry for each node, each cell and each leaf, in their order.
@@ -139,7 +152,7 @@ pub fn loads_after_a_cell()
 
 /// The moment stays below 2^40, whatever steps a transition takes and whatever answer is taken while nothing is to be done.
 pub fn moments_stay_below_their_limit()
-    ensures steps { (t : Transition) (whole : Bool) (rest left : Option (List Answer)) (since later : List Event) → Goes t whole since rest later left
+    ensures steps { (t : Transition) (whole : Bool) (rest left : Option (List Answer)) (since later : List Event) → GoesBySteps t whole since rest later left
         → moment_of (journal t since) < 2 ^ 40 → moment_of (journal t later) < 2 ^ 40 }
     ensures idle { (c : Cluster) (es : List Event) (given : Answer) → Applies (idling c es) [] given → moment_of es < 2 ^ 40
         → moment_of (es ++ answer_events (idling c es) [] given) < 2 ^ 40 }

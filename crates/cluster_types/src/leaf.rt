@@ -49,7 +49,7 @@ impl Op {
     }
 
     /// Whether the operation gives a role.
-    pub fn is_up(self) -> bool
+    pub fn is_giving(self) -> bool
         ensures { result ≡ precedence.is_giving self }
     {
         matches!(self, Op::Start | Op::Promote)

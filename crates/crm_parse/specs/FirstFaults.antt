@@ -30,7 +30,7 @@ pub record BeginsLine (before : List DraftStatement) (words : Words) : Type 0 wh
 abbrev pub StaysRefused : List DraftStatement → Words → ParseCause → Type 0
 StaysRefused before words cause = (more : Words) → AllByRecursion LacksEnabled more → draft_of before (words ++ more) ≡ Err cause
 
--- the words before the faulty one begin a line; with it they are refused for this cause, whatever stands behind
+-- the words before the faulty one begin a line; with it they are refused for this cause, whatever stands behind but `enabled`
 pub record FirstFault (before : List DraftStatement) (words : Words) (cause : ParseCause) : Type 0 where
   pub front : Words
   pub word : List ℕ

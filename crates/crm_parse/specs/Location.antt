@@ -75,7 +75,7 @@ with_rule before words = do
   rule ← rule_at word.1
   Ok (before ++ rule.0 ∷ [], rule.1)
 
--- some rules, and those that follow, of which there are no more than words
+-- some rules, and those that follow. The number counts down from that of the words: each rule takes at least one of them, so none is left unread
 abbrev pub with_rules : ℕ → List RuleForm → Words → Result (List RuleForm) ParseCause
 with_rules zero before words = Ok before
 with_rules (suc most) before [] = Ok before

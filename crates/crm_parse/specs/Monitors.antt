@@ -12,7 +12,7 @@ recurring_in op = if recurs op then interval_of op.pairs ∷ [] else []
 abbrev pub recurring : List Operation → List ℕ
 recurring ops = flat_map recurring_in ops
 
--- some intervals of monitors, which may stand beside each other. Those that recur are above 0 by themselves
+-- intervals of monitors that may stand beside each other: at most eight, no two alike. A monitor that recurs has one above 0
 pub record MayStandTogether (intervals : List ℕ) : Type 0 where
   pub few : length intervals ≤ 8
   pub above : AllByRecursion (λ interval. 0 < interval) intervals

@@ -20,7 +20,7 @@ abbrev pub taken_action : Words → ActionWord → List ℕ → ActionWord
 taken_action promotable before resource =
     if list_any (λ name. is name resource) promotable then before else unpromoted before
 
--- the action of a resource of an order: the one that was written, else that of the resource before it
+-- the action of a resource of an order: the one that was written, else the one that it takes from the resource before it
 abbrev pub action_in : Words → ActionWord → List ℕ → Option ActionWord → ActionWord
 action_in promotable before resource (Some action) = action
 action_in promotable before resource None = taken_action promotable before resource

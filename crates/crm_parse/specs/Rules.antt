@@ -200,7 +200,8 @@ with_joined before all words = do
   word ← noted_at before.words words
   with_test (record { joined = Some all; tests = before.tests; words = word.1 }) word.2
 
--- an expression, and the tests that are joined to it as the next word says, of which there are no more than words
+-- an expression, and the tests that are joined to it as the next word says. The number counts down from that of the words: each test takes at least one of
+-- them, so none is left unread
 abbrev pub with_tests : ℕ → Option Bool → Expression → Words → Result (Expression × Words) ParseCause
 with_tests zero joiner before words = Ok (before, words)
 with_tests (suc most) None before words = Ok (before, words)

@@ -50,7 +50,7 @@ section_of owner word = allowed owner (section_word word)
 abbrev pub is_section : Owner → List ℕ → Bool
 is_section owner word = is_some (section_of owner word)
 
--- the word after the section word is a name, whatever it is: so it is of `op` alone
+-- the word after the section word is a name, whatever it is: so it is after `op` alone
 abbrev pub takes_name : Option SectionWord → Bool
 takes_name (Some Op) = true
 takes_name _ = false
@@ -64,10 +64,10 @@ abbrev pub onto : Option SectionWord → List ℕ → Words × List Part → Wor
 onto None word parts = (word ∷ parts.0, parts.1)
 onto (Some section) word parts = ([], (section, parts.0) ∷ parts.1)
 
--- some words are cut into those before the first section word, and the sections. Where the truth says that the first word stands in the place of a name, it
+-- some words are cut into those before the first section word, and the sections. Where the first word stands in the place of a name (the truth says so), it
 -- begins no section, whatever it is
 abbrev pub cut_into_sections : Owner → Bool → Words → Words × List Part
-cut_into_sections owner is_name [] = ([], [])
+cut_into_sections owner in_name_place [] = ([], [])
 cut_into_sections owner true (word ∷ words) = onto None word (cut_into_sections owner false words)
 cut_into_sections owner false (word ∷ words) = onto (section_of owner word) word (cut_into_sections owner (takes_name (section_of owner word)) words)
 

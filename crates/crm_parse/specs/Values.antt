@@ -2,6 +2,7 @@
 use Rattle.std.specs.Prelude.{ℕ, ◌*◌, ◌||◌, nat_le, Bool, true, false, if◌then◌else◌, List, take, drop, Option, Some, None, codes}
 use Rattle.std.specs.Char.{is_ascii_digit}
 use Rattle.std.specs.List.{prefix_len}
+use Rattle.std.specs.Option.{option_and_then}
 use Rattle.std.specs.Str.{str_eq_ignore_ascii_case}
 use Rattle.crm_lex.specs.Names.{is}
 use Rattle.faults.specs.Digits.{number_up_to}
@@ -11,11 +12,6 @@ use Rattle.crm_parse.specs.declared.words.KindWord.{KindWord}
 use Rattle.crm_parse.specs.declared.words.KindWord.TheVariants as kind
 use Rattle.crm_parse.specs.declared.values.RoleName.{RoleName}
 use Rattle.crm_parse.specs.declared.values.RoleName.TheVariants as role
-
-infixl 10 ◌>>=◌
-abbrev pub ◌>>=◌ : {A B : Type 0} → Option A → (A → Option B) → Option B
-None >>= f = None
-(Some x) >>= f = f x
 
 -- the word is this text, in upper or lower case (that the case doesn't matter is a rule of this project)
 abbrev pub says : List ℕ → List ℕ → Bool
@@ -79,7 +75,6 @@ up_to most n = if nat_le n most then Some n else None
 
 -- a time in milliseconds: digits and a unit, up to 4,294,967,295 ms (that bound is a rule of this project)
 abbrev pub time_of : List ℕ → Option ℕ
-time_of word = do
-  number ← number_up_to 4294967295 (take (digits_before word) word)
-  unit ← unit_of (drop (digits_before word) word)
-  up_to 4294967295 (number * unit)
+time_of word =
+    option_and_then (λ number. option_and_then (λ unit. up_to 4294967295 (number * unit)) (unit_of (drop (digits_before word) word)))
+    (number_up_to 4294967295 (take (digits_before word) word))

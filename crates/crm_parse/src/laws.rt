@@ -35,7 +35,7 @@ pub fn lines_are_read_as_they_say()
         → (draft_of before words ≡ Ok statement) ↔ LineSays before words statement }
 {}
 
-/// The words of a line say one statement and no other, so no two statements have the same words.
+/// The words of a line say one statement at most, so no two statements have the same words.
 pub fn statements_of_lines_are_unique()
     ensures { (before : List DraftOf) (words : List (List ℕ)) (one other : StatementOf) → LineSays before words one → LineSays before words other
         → one ≡ other }
@@ -90,7 +90,7 @@ pub fn settings_are_read_as_they_say()
         → (settings_at what before words ≡ Ok form) ↔ SettingsSay what before words form }
 {}
 
-/// The lines of a text say the statements of one configuration and no other.
+/// The lines of a text say the statements of one configuration at most.
 pub fn configurations_of_texts_are_unique()
     ensures { (lines : List LineOf) (one other : List DraftOf) → ConfigurationSays lines one → ConfigurationSays lines other → one ≡ other }
 {}

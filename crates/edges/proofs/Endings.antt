@@ -23,7 +23,7 @@ use Rattle.edges.proofs.Walks.{GoesOn, loop_of_set}
 
 pub begins_within : (positions : ℕ) (edges : List Edge) → EndsWithin positions edges → (x y : ℕ) → Leads edges x y → x < positions
 begins_within positions edges ends _ _ (one_link _ _ (linked e c)) = let w = ends e c in omega arith
-begins_within positions edges ends _ _ (link_then _ _ y (linked e c) rest) = let w = ends e c in omega arith
+begins_within positions edges ends _ _ (link_then _ _ y (linked e c) _ rest) = let w = ends e c in omega arith
 
 distinct_range : (n : ℕ) → IsDistinct ◌==◌ (range_with_len 0 n)
 distinct_range n = IsDistinct-from_apart ◌==◌ (range_with_len 0 n) (λ i j d before within.

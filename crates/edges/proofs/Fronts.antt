@@ -9,7 +9,7 @@ use Rattle.edges.proofs.Endings.{one_way}
 
 no_way : (x y : ℕ) → Leads [] x y → ⊥
 no_way _ _ (one_link _ _ (linked e c)) = in_none e c
-no_way _ _ (link_then _ _ _ (linked e c) rest) = in_none e c
+no_way _ _ (link_then _ _ _ (linked e c) _ rest) = in_none e c
 
 pub none_without_edges : HasNoLoop []
 none_without_edges x led = no_way x x led
@@ -25,7 +25,7 @@ ends_front positions edges ends n e c = ends e (contains_first n edges e c)
 module _ (edges more : List Edge) (has_all : (e : Edge) → Contains edges e → Contains more e) where
   leads_with_more : (x y : ℕ) → Leads edges x y → Leads more x y
   leads_with_more _ _ (one_link _ _ (linked e c)) = one_link _ _ (linked e (has_all e c))
-  leads_with_more _ _ (link_then _ _ y (linked e c) rest) = link_then _ _ y (linked e (has_all e c)) (leads_with_more e.after y rest)
+  leads_with_more _ _ (link_then _ _ y (linked e c) _ rest) = link_then _ _ y (linked e (has_all e c)) tt (leads_with_more e.after y rest)
 
   pub loop_with_more : HasLoop edges → HasLoop more
   loop_with_more l = record { at = l.at; leads = leads_with_more l.at l.at l.leads }

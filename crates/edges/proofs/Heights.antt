@@ -1,6 +1,7 @@
 -- Edges without a loop rise in some height: how many positions lead to each.
 use Rattle.std.proofs.Common.{arith, ◌≡◌, ◌<◌, ◌≤◌, ◌+◌, ◌==◌, ◌||◌, ℕ, suc, zero, Bool, true, false, List, [], ◌∷◌, length, count_by, slice_index_or, refl, ◌∙◌, Contains}
 use Rattle.std.specs.List.{IsDistinct, range_with_len}
+use Rattle.std.specs.Prelude.{⊤}
 use Rattle.std.proofs.lemmas.Bool.{eqb-true, false_from_ne_true, or_right}
 use Rattle.std.proofs.lemmas.List.FromFn.{length-range_with_len, get_or-range_with_len}
 use Rattle.std.proofs.lemmas.Map.Keys.{IsDistinct-cons}
@@ -8,16 +9,14 @@ use Rattle.std.proofs.lemmas.Map.Steps.{length-le_from_distinct_below}
 use Rattle.lemmas.proofs.Counts.{count_one_more}
 use Rattle.edges.specs.declared.edge.Edge.{Edge}
 use Rattle.edges.specs.Chains.{linked, link_then, one_link}
-use Rattle.edges.specs.Loops.{EndsWithin, HasNoLoop, Leads, leads_within, RiseSomehow}
+use Rattle.edges.specs.Inner.ShortWays.{leads_within}
+use Rattle.edges.specs.Loops.{EndsWithin, HasNoLoop, IsEdge, Leads, RiseSomehow}
 use Rattle.edges.specs.Sources.{is_in_list}
 use Rattle.edges.proofs.Endings.{begins_within}
 use Rattle.edges.proofs.Leading.{leads_directly, leads-from_computed, of_step}
 use Rattle.edges.proofs.Members.{none_all}
+use Rattle.edges.proofs.ThroughOthers.{chain_then}
 use Rattle.edges.proofs.Walks.{alone}
-
-pub joined : (edges : List Edge) (x y z : ℕ) → Leads edges x y → Leads edges y z → Leads edges x z
-joined edges _ _ z (one_link _ _ (linked e c)) next = link_then _ _ z (linked e c) next
-joined edges _ _ z (link_then _ _ y (linked e c) rest) next = link_then _ _ z (linked e c) (joined edges e.after y z rest next)
 
 -- Without a loop a way meets no position twice, so it has fewer edges than there are positions.
 
@@ -31,7 +30,7 @@ module _ (positions : ℕ) (edges : List Edge) (ends : EndsWithin positions edge
   module _ (seen : List ℕ) (e : Edge) (c : Contains edges e) (m : Met positions edges seen e.before) where
     led_on : (y : ℕ) (same : Bool) → (y == e.before) ≡ same → same || is_in_list seen y ≡ true → Leads edges y e.after
     led_on y true at h = let back : y ≡ e.before = eqb-true y e.before at in rw back (one_link _ _ (linked e c))
-    led_on y false at h = joined edges y e.before e.after (m.led y h) (one_link _ _ (linked e c))
+    led_on y false at h = chain_then (λ via. ⊤) (IsEdge edges) y e.before e.after (m.led y h) tt (one_link _ _ (linked e c))
 
     new_on : (b : Bool) → is_in_list (e.before ∷ seen) e.after ≡ b → is_in_list (e.before ∷ seen) e.after ≡ false
     new_on true h = absurd (free e.after (led_on e.after (e.after == e.before) refl h))
@@ -57,7 +56,7 @@ module _ (positions : ℕ) (edges : List Edge) (ends : EndsWithin positions edge
       → leads_within n edges x y ≡ true
   short_way zero seen x y l m enough = let s = short_met seen x m in absurd (let f : ⊥ = omega arith in f)
   short_way (suc n) seen _ _ (one_link _ _ (linked e c)) m enough = leads_directly n edges e c
-  short_way (suc n) seen _ _ (link_then _ _ y (linked e c) rest) m enough =
+  short_way (suc n) seen _ _ (link_then _ _ y (linked e c) _ rest) m enough =
       let led : leads_within n edges e.after y ≡ true
       = short_way n (e.before ∷ seen) e.after y rest (met_more seen e c m) (omega arith) in
       of_step n edges e.before y (record { edge = e; among = c; from = refl; on = or_right (e.after == y) _ led })
@@ -80,7 +79,8 @@ module _ (positions : ℕ) (edges : List Edge) (ends : EndsWithin positions edge
   reaches_further : (e : Edge) → Contains edges e → (y : ℕ) → leads_within positions edges y e.before ≡ true
       → leads_within positions edges y e.after ≡ true
   reaches_further e c y h =
-      leads_computed y e.after (joined edges y e.before e.after (leads-from_computed positions edges y e.before h) (one_link _ _ (linked e c)))
+      leads_computed y e.after (chain_then (λ via. ⊤) (IsEdge edges) y e.before e.after (leads-from_computed positions edges y e.before h) tt
+      (one_link _ _ (linked e c)))
 
   pub rises : (e : Edge) → Contains edges e → height e.before < height e.after
   rises e c =

@@ -6,7 +6,8 @@ use Rattle.lemmas.proofs.Booleans.{sooner, later}
 use Rattle.lemmas.proofs.Searches.{passes_by}
 use Rattle.edges.specs.declared.edge.Edge.{Edge}
 use Rattle.edges.specs.Chains.{linked, link_then, one_link}
-use Rattle.edges.specs.Loops.{Leads, leads_within}
+use Rattle.edges.specs.Inner.ShortWays.{leads_within}
+use Rattle.edges.specs.Loops.{Leads}
 
 -- the edge leads on from x, and after it at most so many others to y
 abbrev pub leads_by : ℕ → List Edge → ℕ → ℕ → Edge → Bool
@@ -79,7 +80,7 @@ straight : (edges : List Edge) (x y : ℕ) (e : Edge) → Contains edges e → e
 straight edges x y e c s t = rw (← s) (rw (← t) (one_link _ _ (linked e c)))
 
 around : (edges : List Edge) (x y : ℕ) (e : Edge) → Contains edges e → e.before ≡ x → Leads edges e.after y → Leads edges x y
-around edges x y e c s rest = rw (← s) (link_then _ _ y (linked e c) rest)
+around edges x y e c s rest = rw (← s) (link_then _ _ y (linked e c) tt rest)
 
 way_on : (m : ℕ) (edges : List Edge) (x y : ℕ) → (s : Step m edges x y) → (same : Bool) → (s.edge.after == y) ≡ same
     → same || leads_within m edges s.edge.after y ≡ true → (leads_within m edges s.edge.after y ≡ true → Leads edges s.edge.after y)

@@ -1,4 +1,3 @@
-pub mod Booleans
 pub mod Members
 pub mod Leading
 pub mod Walks
@@ -11,6 +10,7 @@ pub mod SourceRows
 pub mod Fronts
 pub mod Paths
 pub mod Relations
+pub mod ThroughOthers
 pub mod Heights
 pub mod Entering
 pub mod Longest

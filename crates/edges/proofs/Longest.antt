@@ -5,7 +5,8 @@ use Rattle.std.proofs.Math.Nat.{le-max_left, le-max_right}
 use Rattle.std.proofs.lemmas.List.FromFn.{length-range_with_len}
 use Rattle.std.proofs.lemmas.List.Sums.{count_by-le-length}
 use Rattle.edges.specs.declared.edge.Edge.{Edge}
-use Rattle.edges.specs.Loops.{EndsWithin, HasNoLoop, leads_within}
+use Rattle.edges.specs.Inner.ShortWays.{leads_within}
+use Rattle.edges.specs.Loops.{EndsWithin, HasNoLoop}
 use Rattle.edges.specs.Sources.{sources_of}
 use Rattle.edges.specs.LongestChains.{AreHeights, above, longest, longest_within}
 use Rattle.lemmas.proofs.Members.{at_head, head_or_rest, in_none, in_rest}

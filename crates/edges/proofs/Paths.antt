@@ -6,7 +6,8 @@ use Rattle.std.proofs.lemmas.List.Folds.{Any-from_list_any, list_any_at}
 use Rattle.std.proofs.lemmas.List.FromFn.{length-range_with_len, get_or-range_with_len}
 use Rattle.edges.specs.declared.edge.Edge.{Edge}
 use Rattle.edges.specs.Chains.{linked, link_then, one_link}
-use Rattle.edges.specs.Loops.{EndsWithin, HasLoop, HasNoLoop, HasShortLoop, Leads, leads_within}
+use Rattle.edges.specs.Inner.ShortWays.{HasShortLoop, leads_within}
+use Rattle.edges.specs.Loops.{EndsWithin, HasLoop, HasNoLoop, Leads}
 use Rattle.edges.proofs.Endings.{begins_within}
 use Rattle.edges.proofs.Leading.{leads-from_computed}
 use Rattle.edges.proofs.Walks.{GoesOn, loop_of_short, short_loop_of_set}
@@ -23,7 +24,7 @@ module _ (positions : ℕ) (edges : List Edge) (ends : EndsWithin positions edge
 
   on_way : (y z : ℕ) → Leads edges y z → z ≡ x → GoesOn edges (Toward edges x) y
   on_way _ _ (one_link _ _ (linked e c)) at = record { edge = e; among = c; from = refl; to = leads_there e.after (rw at led) }
-  on_way _ _ (link_then _ _ z (linked e c) rest) at = record { edge = e; among = c; from = refl; to = leads_there e.after (rw at at rest) }
+  on_way _ _ (link_then _ _ z (linked e c) _ rest) at = record { edge = e; among = c; from = refl; to = leads_there e.after (rw at at rest) }
 
   goes_toward : (y : ℕ) → Toward edges x y → GoesOn edges (Toward edges x) y
   goes_toward _ (leads_there y l) = on_way y x l refl
@@ -63,7 +64,7 @@ loop_or_none positions edges ends = on (list_any (λ x. leads_within positions e
 module _ (edges : List Edge) (height : ℕ → ℕ) (rises : (e : Edge) → Contains edges e → height e.before < height e.after) where
   paths_rise : (x y : ℕ) → Leads edges x y → height x < height y
   paths_rise _ _ (one_link _ _ (linked e c)) = rises e c
-  paths_rise _ _ (link_then _ _ y (linked e c) rest) =
+  paths_rise _ _ (link_then _ _ y (linked e c) _ rest) =
       let first : height e.before < height e.after = rises e c in
       let others : height e.after < height y = paths_rise e.after y rest in
       omega arith

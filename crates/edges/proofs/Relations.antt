@@ -1,12 +1,9 @@
--- What follows one another in some relation, computed over steps, follows along edges between the positions of the things related.
-use Rattle.std.proofs.Common.{◌≡◌, ◌==◌, ◌&&◌, ◌||◌, ℕ, suc, zero, Bool, true, false, List, sym, ◌∙◌, Contains}
-use Rattle.std.specs.List.{list_any}
-use Rattle.std.proofs.lemmas.Bool.{and_from}
-use Rattle.lemmas.proofs.Searches.{passes_by}
+-- Things at positions, and links between them: each link has an edge, or each edge a link. Where each edge from the position of a thing leads to that of one
+-- that it is linked with, a way along edges is a chain of links, and a loop of edges one of links.
+use Rattle.std.proofs.Common.{◌≡◌, ℕ, List, sym, ◌∙◌, Contains}
 use Rattle.edges.specs.declared.edge.Edge.{Edge}
-use Rattle.edges.specs.Loops.{HasShortLoop, leads_within}
-use Rattle.edges.proofs.Booleans.{onward}
-use Rattle.edges.proofs.Leading.{Step, step_of}
+use Rattle.edges.specs.Chains.{Chain, link_then, linked, one_link}
+use Rattle.edges.specs.Loops.{HasLoop, Leads}
 
 -- an edge for a way from s
 pub record EdgeFor {A W : Type 0} (target : W → A) (edges : List Edge) (pos : A → ℕ) (w : W) (s : A) : Type 0 where
@@ -15,62 +12,48 @@ pub record EdgeFor {A W : Type 0} (target : W → A) (edges : List Edge) (pos : 
   pub from : edge.before ≡ pos s
   pub to : edge.after ≡ pos (target w)
 
--- a way from s for an edge
-pub record WayFor {A W : Type 0} (starts : W → A → Bool) (target : W → A) (ways : List W) (pos : A → ℕ) (e : Edge) (s : A) : Type 0 where
-  pub way : W
-  pub among : Contains ways way
-  pub begins : starts way s ≡ true
-  pub to : e.after ≡ pos (target way)
+-- a link from s along an edge
+pub record LinkFor {A : Type 0} (Linked : A → A → Type 0) (pos : A → ℕ) (e : Edge) (s : A) : Type 0 where
+  pub next : A
+  pub link : Linked s next
+  pub to : e.after ≡ pos next
 
--- something follows itself
-pub record FollowsItself {A : Type 0} (F : ℕ → A → A → Bool) (n : ℕ) : Type 0 where
-  pub thing : A
-  pub follows : F n thing thing ≡ true
-
--- something stands at a position
-pub record StandsFor {A : Type 0} (pos : A → ℕ) (x : ℕ) : Type 0 where
+-- one thing stands at a position
+pub record OneAt {A : Type 0} (pos : A → ℕ) (x : ℕ) : Type 0 where
   pub thing : A
   pub here : x ≡ pos thing
+  pub alone : (t : A) → pos thing ≡ pos t → thing ≡ t
 
--- `F n s t` says that at most n ways lead on from s to t: give `λ _ _. refl` and `λ _ _ _. refl` for its two equations
-module _ {A W : Type 0} (starts : W → A → Bool) (target : W → A) (same : A → A → Bool) (ways : List W) (F : ℕ → A → A → Bool)
-    (none : (s t : A) → F zero s t ≡ false)
-    (more : (n : ℕ) (s t : A) → F (suc n) s t ≡ list_any (λ w. starts w s && (same (target w) t || F n (target w) t)) ways)
-    (edges : List Edge) (pos : A → ℕ) (alike : (w : W) (t : A) → Contains ways w → same (target w) t ≡ (pos (target w) == pos t)) where
-  abbrev way_by : ℕ → A → A → W → Bool
-  way_by n s t w = starts w s && (same (target w) t || F n (target w) t)
+-- a chain leads on to a position
+record ChainTo {A : Type 0} (Linked : A → A → Type 0) (pos : A → ℕ) (s : A) (y : ℕ) : Type 0 where
+  pub last : A
+  pub chain : Chain Linked s last
+  pub there : y ≡ pos last
 
-  -- where each edge has a way, what is led to follows
-  pub of_leads : ((e : Edge) (s : A) → Contains edges e → e.before ≡ pos s → WayFor starts target ways pos e s) → (n : ℕ) (s t : A)
-      → leads_within n edges (pos s) (pos t) ≡ true → F n s t ≡ true
-  of_leads way_for zero s t h = cc
-  of_leads way_for (suc n) s t h =
-      let l : Step n edges (pos s) (pos t) = step_of n edges (pos s) (pos t) h in
-      let w : WayFor starts target ways pos l.edge s = way_for l.edge s l.among l.from in
-      let on : (pos (target w.way) == pos t) || leads_within n edges (pos (target w.way)) (pos t) ≡ true = rw w.to at l.on in
-      let then : (pos (target w.way) == pos t) || F n (target w.way) t ≡ true
-      = onward (pos (target w.way) == pos t) _ _ (of_leads way_for n (target w.way) t) on in
-      more n s t ∙ passes_by (way_by n s t) ways w.way w.among (and_from (starts w.way s) _ w.begins (rw (alike w.way t w.among) then))
+-- a chain leads back to where it begins
+pub record Ring {A : Type 0} (Linked : A → A → Type 0) : Type 0 where
+  pub thing : A
+  pub chain : Chain Linked thing thing
 
-  -- so where edges have a loop something follows itself
+module _ {A : Type 0} (Linked : A → A → Type 0) (pos : A → ℕ) (edges : List Edge) where
+  module _ (link_for : (e : Edge) (s : A) → Contains edges e → e.before ≡ pos s → LinkFor Linked pos e s) where
+    chain_of_way : (x y : ℕ) → Leads edges x y → (s : A) → x ≡ pos s → ChainTo Linked pos s y
+    chain_of_way _ _ (one_link _ _ (linked e h)) s from =
+        let l = link_for e s h from in
+        record { last = l.next; chain = one_link s l.next l.link; there = l.to }
+    chain_of_way _ _ (link_then _ _ y (linked e h) _ rest) s from =
+        let l = link_for e s h from in
+        let on = chain_of_way e.after y rest l.next l.to in
+        record { last = on.last; chain = link_then s l.next on.last l.link tt on.chain; there = on.there }
 
-  at_loop : ((e : Edge) (s : A) → Contains edges e → e.before ≡ pos s → WayFor starts target ways pos e s) → (n x : ℕ)
-      → leads_within n edges x x ≡ true
-      → StandsFor pos x → FollowsItself F n
-  at_loop way_for n x h p =
-      record { thing = p.thing; follows = of_leads way_for n p.thing p.thing (back n x (pos p.thing) p.here h) }
-    where
-      back : (n x y : ℕ) → x ≡ y → leads_within n edges x x ≡ true → leads_within n edges y y ≡ true
-      back n x y e h = rw e at h
+    module _ (begins_at : (e : Edge) → Contains edges e → OneAt pos e.before) where
+      first_at : (x y : ℕ) → Leads edges x y → OneAt pos x
+      first_at _ _ (one_link _ _ (linked e h)) = begins_at e h
+      first_at _ _ (link_then _ _ y (linked e h) _ rest) = begins_at e h
 
-  first_at : (n x : ℕ) → leads_within n edges x x ≡ true → ((e : Edge) → Contains edges e → StandsFor pos e.before) → StandsFor pos x
-  first_at zero x h each = cc
-  first_at (suc n) x h each =
-      let s : Step n edges x x = step_of n edges x x h in
-      let p = each s.edge s.among in
-      record { thing = p.thing; here = sym s.from ∙ p.here }
-
-  pub one_follows_itself : ((e : Edge) (s : A) → Contains edges e → e.before ≡ pos s → WayFor starts target ways pos e s)
-      → ((e : Edge) → Contains edges e → StandsFor pos e.before)
-      → (positions : ℕ) → HasShortLoop positions edges → FollowsItself F positions
-  one_follows_itself way_for each positions l = at_loop way_for positions l.at l.leads (first_at positions l.at l.leads each)
+      pub ring_of_loop : HasLoop edges → Ring Linked
+      ring_of_loop l =
+          let first = first_at l.at l.at l.leads in
+          let back = chain_of_way l.at l.at l.leads first.thing first.here in
+          let same : first.thing ≡ back.last = first.alone back.last (sym first.here ∙ back.there) in
+          record { thing = first.thing; chain = rw (← same) at back.chain }

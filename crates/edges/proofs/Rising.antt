@@ -13,7 +13,7 @@ use Rattle.edges.proofs.Members.{StandsAt, place_of, has_take, not_before}
 module _ (edges : List Edge) (order : List ℕ) (back : LeadsBack edges order) where
   pub leads_back : (x y : ℕ) → Leads edges x y → (k : ℕ) → k < length order → x ≡ slice_index_or order k 0 → is_in_list (take k order) y ≡ true
   leads_back _ _ (one_link _ _ (linked e c)) k lt at = back k e lt c at
-  leads_back _ _ (link_then _ _ y (linked e c) rest) k lt at =
+  leads_back _ _ (link_then _ _ y (linked e c) _ rest) k lt at =
       let s : StandsAt (take k order) e.after = place_of (take k order) e.after (back k e lt c at) in
       let before : s.place < k = omega (arith, s.within, length-take k order) in
       let here : e.after ≡ slice_index_or order s.place 0 = let h = s.here in let t = get_or-take k order s.place 0 before in cc in

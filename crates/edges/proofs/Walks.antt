@@ -5,7 +5,8 @@ use Rattle.std.proofs.lemmas.Bool.{eqb-true}
 use Rattle.std.proofs.lemmas.Map.Keys.{IsDistinct-cons}
 use Rattle.std.proofs.lemmas.Map.Steps.{length-le_from_distinct_below}
 use Rattle.edges.specs.declared.edge.Edge.{Edge}
-use Rattle.edges.specs.Loops.{HasLoop, HasShortLoop, leads_within}
+use Rattle.edges.specs.Inner.ShortWays.{HasShortLoop, leads_within}
+use Rattle.edges.specs.Loops.{HasLoop}
 use Rattle.edges.specs.Sources.{is_in_list}
 use Rattle.edges.proofs.Leading.{leads-from_computed, leads_directly, leads_further, leads_longer}
 use Rattle.edges.proofs.Members.{none_all}

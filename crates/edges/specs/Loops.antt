@@ -1,17 +1,20 @@
 -- Loops of a list of edges between positions (rule of this project).
-use Rattle.std.specs.Prelude.{◌≡◌, ◌<◌, ◌+◌, ℕ, suc, zero, ◌==◌, ◌&&◌, ◌||◌, Bool, true, false, List, Option, Some, None, length, take, Contains}
+use Rattle.std.specs.Prelude.{◌<◌, ◌+◌, ℕ, ◌==◌, ◌&&◌, Bool, List, Option, Some, None, length, take, Contains}
 use Rattle.std.specs.List.{list_any}
 use Rattle.edges.specs.declared.edge.Edge.{Edge}
 use Rattle.edges.specs.Chains.{Chain, LinksHaveNoLoop, IsLinked}
 
+-- one of the edges leads from a position to another
+abbrev pub IsEdge : List Edge → ℕ → ℕ → Type 0
+IsEdge edges x y = IsLinked (λ (e : Edge). e.before) (λ (e : Edge). e.after) edges x y
+
 -- the edges lead from a position to another, one after the other
 abbrev pub Leads : List Edge → ℕ → ℕ → Type 0
-Leads edges x y = Chain (IsLinked (λ (e : Edge). e.before) (λ (e : Edge). e.after) edges) x y
+Leads edges x y = Chain (IsEdge edges) x y
 
--- the same, computed, over at most so many edges. Where no loop is, as many as there are positions are enough (`ways_are_short`)
-abbrev pub leads_within : ℕ → List Edge → ℕ → ℕ → Bool
-leads_within zero edges x y = false
-leads_within (suc most) edges x y = list_any (λ e. e.before == x && (e.after == y || leads_within most edges e.after y)) edges
+-- `IsEdge` as a test
+abbrev pub is_edge : List Edge → ℕ → ℕ → Bool
+is_edge edges x y = list_any (λ e. e.before == x && e.after == y) edges
 
 -- both ends of each edge are positions
 abbrev pub EndsWithin : ℕ → List Edge → Type 0
@@ -19,17 +22,12 @@ EndsWithin positions edges = (e : Edge) → Contains edges e → (e.before < pos
 
 -- no edges lead from a position back to it
 abbrev pub HasNoLoop : List Edge → Type 0
-HasNoLoop edges = LinksHaveNoLoop (IsLinked (λ (e : Edge). e.before) (λ (e : Edge). e.after) edges)
+HasNoLoop edges = LinksHaveNoLoop (IsEdge edges)
 
 -- from some position edges lead back to it
 pub record HasLoop (edges : List Edge) : Type 0 where
   pub at : ℕ
   pub leads : Leads edges at at
-
--- the same, of at most so many edges (`loops_are_short`)
-pub record HasShortLoop (most : ℕ) (edges : List Edge) : Type 0 where
-  pub at : ℕ
-  pub leads : leads_within most edges at at ≡ true
 
 -- some height of the positions rises along each edge
 pub record RiseSomehow (edges : List Edge) : Type 0 where

@@ -1,14 +1,11 @@
 //! What follows from the definitions of `specs/`, for every list of edges.
 
 ghost use Rattle.std.specs.Prelude.{◌≡◌, ◌↔◌, true, ◌⊎◌, ℕ, List, Option, Contains};
+ghost use Rattle.std.specs.List.{range_with_len};
 ghost use Rattle.edges.specs.declared.edge.Edge.{Edge};
+ghost use Rattle.edges.specs.Chains.{ChainThrough, leads_through};
 ghost use Rattle.edges.specs.LongestChains.{AreHeights, longest};
-ghost use Rattle.edges.specs.Loops.{EndsWithin, HasLoop, HasNoLoop, HasShortLoop, IsFirstLoop, Leads, RiseSomehow, leads_within};
-
-/// Where edges have a loop, however long, some loop has no more edges than there are positions.
-pub fn loops_are_short()
-    ensures { (positions : ℕ) (edges : List Edge) → EndsWithin positions edges → HasLoop edges ↔ HasShortLoop positions edges }
-{}
+ghost use Rattle.edges.specs.Loops.{EndsWithin, HasLoop, HasNoLoop, IsEdge, IsFirstLoop, Leads, RiseSomehow, is_edge};
 
 /// Edges have no loop when some height rises along each of them, and only then.
 pub fn edges_without_a_loop_rise()
@@ -21,10 +18,13 @@ pub fn loops_or_none()
     ensures no_more { (edges : List Edge) → HasLoop edges → HasNoLoop edges → ⊥ }
 {}
 
-/// Without a loop no way needs more edges than there are positions.
-pub fn ways_are_short()
-    ensures { (positions : ℕ) (edges : List Edge) → EndsWithin positions edges → HasNoLoop edges
-        → (x y : ℕ) → Leads edges x y ↔ (leads_within positions edges x y ≡ true) }
+/// A way of any length leads from one position to another when the test finds one through the positions; and one through none but some positions, when it finds
+/// one through these.
+pub fn ways_are_computed()
+    ensures through { (edges : List Edge) (others : List ℕ) (x y : ℕ)
+        → ChainThrough (Contains others) (IsEdge edges) x y ↔ (leads_through (is_edge edges) others x y ≡ true) }
+    ensures whole { (positions : ℕ) (edges : List Edge) → EndsWithin positions edges
+        → (x y : ℕ) → Leads edges x y ↔ (leads_through (is_edge edges) (range_with_len 0 positions) x y ≡ true) }
 {}
 
 /// A list with all edges of one that has a loop has a loop, whatever their order, and however often each stands there.

@@ -25,8 +25,8 @@ pub use clearing::is_loop_free;
 pub use edge::{Edge, end_within};
 pub use first::first_loop;
 pub use laws::{
-    edges_without_a_loop_rise, first_loop_is_unique, longest_ways_are_unique, loops_are_short,
-    loops_or_none, loops_stay, ways_are_short,
+    edges_without_a_loop_rise, first_loop_is_unique, longest_ways_are_unique, loops_or_none,
+    loops_stay, ways_are_computed,
 };
 pub use measuring::{longest_ways, longest_ways_if_free};
 pub use rows::Rows;

@@ -10,7 +10,7 @@ use Rattle.cluster_types.specs.declared.journal.Event.TheVariants.{Begin}
 use Rattle.cluster_types.specs.Sources.{Says, untold}
 use Rattle.cluster_types.specs.declared.journal.Outcome.TheVariants.{Code}
 use Rattle.cluster_types.specs.AnswersThatApply.{is_number_of}
-use Rattle.cluster_types.specs.Steps.{Transition, StepsOn, begins, takes, is_silent, Goes, here, one_more, HasEnded, ended, answer_events, numbers_in_flight, in_flight_by_number, is_settled, silent_code}
+use Rattle.cluster_types.specs.Steps.{Transition, StepsOn, begins, takes, is_silent, GoesBySteps, here, one_more, HasEnded, ended, answer_events, numbers_in_flight, in_flight_by_number, is_settled, silent_code}
 use Rattle.run_safety.proofs.InFlight.{among_flying}
 use Rattle.run_safety.proofs.Printed.{answer_line, end_line}
 use Rattle.graph_exec.specs.declared.transition.ends.WatchedEnd.{WatchedEnd}
@@ -25,7 +25,7 @@ use Rattle.graph_exec.proofs.Fewer.{asks_fewer, begin_leaves, silent_leaves, tak
 use Rattle.graph_exec.proofs.Flying.{many_flying}
 
 pub goes-on : (t : Transition) (whole : Bool) (since middle later : List Event) (rest between left : Option (List Answer))
-    → Goes t whole since rest middle between → Goes t whole middle between later left → Goes t whole since rest later left
+    → GoesBySteps t whole since rest middle between → GoesBySteps t whole middle between later left → GoesBySteps t whole since rest later left
 goes-on t whole since _ later rest _ left (here _ _) more = more
 goes-on t whole since middle later rest between left (one_more _ events _ _ next _ step first) more =
     one_more since events later rest next left step (goes-on t whole (since ++ events) middle later next between left first more)
@@ -37,8 +37,8 @@ step_untold t whole since _ rest _ (begins _ k a allowed) = begins None k a allo
 step_untold t whole since _ rest left (takes _ _ given said taken) = takes None None given (untold (Some given)) taken
 step_untold t whole since _ rest left (is_silent _ _ k a said ends) = is_silent None None k a (untold None) ends
 
-goes_untold : (t : Transition) (whole : Bool) (since later : List Event) (rest left : Option (List Answer)) → Goes t whole since rest later left
-    → Goes t true since None later None
+goes_untold : (t : Transition) (whole : Bool) (since later : List Event) (rest left : Option (List Answer)) → GoesBySteps t whole since rest later left
+    → GoesBySteps t true since None later None
 goes_untold t whole since _ rest _ (here _ _) = here since None
 goes_untold t whole since later rest left (one_more _ events _ _ middle _ step more) =
     one_more since events later None None None (step_untold t whole since events rest middle step) (goes_untold t whole (since ++ events) later middle left more)
@@ -59,7 +59,7 @@ module _ (whole : Bool) (first middle last : ExecutorOf) (rest between left : Op
   pub went_on : Went whole first middle rest between → Went whole middle last between left → Went whole first last rest left
   went_on a b =
       let going_is : transition_in middle ≡ transition_in first = ap transition_in a.same in
-      let steps = subst (λ (t : Transition). Goes t whole middle.since between last.since left) going_is b.steps in
+      let steps = subst (λ (t : Transition). GoesBySteps t whole middle.since between last.since left) going_is b.steps in
       record {
         same = b.same ∙ ap (λ (r : ExecutorOf). record { cluster = r.cluster; graph = r.graph; planned_at = r.planned_at; since = last.since; promotions = r.promotions }) a.same;
         steps = goes-on (transition_in first) whole first.since middle.since last.since rest between left a.steps steps;

@@ -7,20 +7,20 @@ use Rattle.cluster_types.specs.declared.journal.Answer.{Answer}
 use Rattle.cluster_types.specs.declared.journal.Event.{Event}
 use Rattle.cluster_types.specs.declared.run.RunLine.{RunLine}
 use Rattle.cluster_types.specs.declared.run.RunLine.TheVariants as line
-use Rattle.cluster_types.specs.Steps.{Transition, Goes, here, one_more}
+use Rattle.cluster_types.specs.Steps.{Transition, GoesBySteps, here, one_more}
 use Rattle.cluster_types.specs.Texts.{event_lines}
 use Rattle.graph_exec.specs.declared.transition.ends.WatchedEnd.{WatchedEnd}
 use Rattle.graph_exec.specs.declared.transition.ends.WatchedEnd.TheVariants as how
-use Rattle.graph_exec.specs.Questions.{AskedBeside, answers_entered, asked_beside, tells_answer}
+use Rattle.graph_exec.specs.Questions.{AskedBeside, answers_entered, questions_beside, is_answer_line}
 use Rattle.graph_exec.specs.Executors.{ExecutorOf, Went, transition_in}
 use Rattle.graph_exec.specs.Inner.Rounds.{Advanced, StopsAs}
 use Rattle.graph_exec.specs.Transitions.{EndedByItself}
 
 abbrev told_in : List RunLine → ℕ
-told_in lines = count_by tells_answer lines
+told_in lines = count_by is_answer_line lines
 
 pub entered-append : (es more : List Event) → answers_entered (es ++ more) ≡ answers_entered es + answers_entered more
-entered-append es more = ap told_in (flat_map-append event_lines es more) ∙ count-append tells_answer (flat_map event_lines es) (flat_map event_lines more)
+entered-append es more = ap told_in (flat_map-append event_lines es more) ∙ count-append is_answer_line (flat_map event_lines es) (flat_map event_lines more)
 
 -- an answer has one line
 pub entered_one : (es more : List Event) (given : Answer) → flat_map event_lines more ≡ line.Taken given ∷ [] → answers_entered (es ++ more) ≡ answers_entered es + 1
@@ -30,7 +30,7 @@ entered_one es more given is =
     omega (arith, one, all)
 
 -- none is taken away
-pub goes_entered : (t : Transition) (whole : Bool) (since later : List Event) (rest left : Option (List Answer)) → Goes t whole since rest later left
+pub goes_entered : (t : Transition) (whole : Bool) (since later : List Event) (rest left : Option (List Answer)) → GoesBySteps t whole since rest later left
     → answers_entered since ≤ answers_entered later
 goes_entered t whole since _ rest _ (here _ _) = omega arith
 goes_entered t whole since later rest left (one_more _ events _ _ middle _ step more) =
@@ -63,7 +63,7 @@ module _ (whole : Bool) (old new : ExecutorOf) (rest left : Option (List Answer)
       record { few = omega (arith, entered, few) }
 
   -- none was
-  pub asks_last : (end : WatchedEnd) → StopsAs whole old new rest left end → now ≤ before + 1 → AskedBeside (asked_beside end) before now old.since new.since
+  pub asks_last : (end : WatchedEnd) → StopsAs whole old new rest left end → now ≤ before + 1 → AskedBeside (questions_beside end) before now old.since new.since
   asks_last how.Complete s few = absurd s
   asks_last (how.Aborted event) s few = absurd s
   asks_last (how.Unexpected given) s few = asks_in_vain s.refused.same few
@@ -72,7 +72,7 @@ module _ (whole : Bool) (old new : ExecutorOf) (rest left : Option (List Answer)
 
 -- nothing more was to be done
 module _ (before now : ℕ) (es later : List Event) where
-  pub asks_done : (end : WatchedEnd) → EndedByItself end → AskedBeside 0 before now es later → AskedBeside (asked_beside end) before now es later
+  pub asks_done : (end : WatchedEnd) → EndedByItself end → AskedBeside 0 before now es later → AskedBeside (questions_beside end) before now es later
   asks_done how.Complete d a = a
   asks_done (how.Aborted event) d a = a
   asks_done (how.Unexpected given) d a = absurd d

@@ -6,7 +6,8 @@ use Rattle.std.proofs.lemmas.List.{take_all}
 use Rattle.std.proofs.lemmas.List.Folds.{Any-from_list_any, list_all_at}
 use Rattle.std.proofs.lemmas.List.FromFn.{get_or-range_with_len, length-range_with_len}
 use Rattle.edges.specs.declared.edge.Edge.{Edge}
-use Rattle.cluster_types.specs.Graphs.{GraphOf, IsGraph, LeadsByGates, direct, through, is_before}
+use Rattle.edges.specs.Chains.{link_then, linked, one_link}
+use Rattle.cluster_types.specs.Graphs.{GraphOf, IsGraph, LeadsByGates, is_before}
 use Rattle.cluster_types.proofs.Paths.{before-computed, before-from_computed}
 use Rattle.listed.specs.Sets.{is_member, members}
 use Rattle.graph_exec.specs.Inner.ClearedPositions.{ClearsGates, edges_held}
@@ -20,9 +21,9 @@ use Rattle.graph_exec.proofs.Beyond.{beyond}
 -- a way goes on by an edge from a gate
 leads_on : (actions : ℕ) (edges : List Edge) (x y : ℕ) → LeadsByGates actions edges x y → actions ≤ y → (e : Edge) → Contains edges e → e.before ≡ y
     → LeadsByGates actions edges x e.after
-leads_on actions edges _ _ (direct d among) gate e c at =
-    through d e.after among gate (let n : LeadsByGates actions edges e.before e.after = direct e c in rw at at n)
-leads_on actions edges _ y (through d _ among up rest) gate e c at = through d e.after among up (leads_on actions edges d.after y rest gate e c at)
+leads_on actions edges _ _ (one_link _ _ (linked d among)) gate e c at =
+    link_then _ _ e.after (linked d among) gate (let n : LeadsByGates actions edges e.before e.after = one_link _ _ (linked e c) in rw at at n)
+leads_on actions edges _ y (link_then _ _ _ (linked d among) up rest) gate e c at = link_then _ _ e.after (linked d among) up (leads_on actions edges d.after y rest gate e c at)
 
 module _ (g : GraphOf) (graph : IsGraph g) (begun succeeded ready : List Bool) (left cleared : List ℕ)
     (c : ClearsGates g begun succeeded ready (length cleared) [] left cleared) where
@@ -43,8 +44,8 @@ module _ (g : GraphOf) (graph : IsGraph g) (begun succeeded ready : List Bool) (
 
   cleared_before : (x y : ℕ) → LeadsByGates (length g.actions) g.edges.list x y → y < g.edges.positions → slice_index_or left y 0 ≡ 0
       → is_in_list cleared x ≡ true
-  cleared_before _ _ (direct e among) within none = from_cleared e.after within none e among refl
-  cleared_before _ y (through e _ among gate rest) within none =
+  cleared_before _ _ (one_link _ _ (linked e among)) within none = from_cleared e.after within none e among refl
+  cleared_before _ y (link_then _ _ _ (linked e among) gate rest) within none =
       let w = graph.within e among in
       let h : is_in_list cleared e.after ≡ true = cleared_before e.after y rest within none in
       let z : slice_index_or left e.after 0 ≡ 0 = eqb-true _ 0 (sym (c.gates e.after gate w.1) ∙ h) in
@@ -64,7 +65,7 @@ module _ (g : GraphOf) (graph : IsGraph g) (begun succeeded ready : List Bool) (
     by = e.before;
     action = rw at action;
     not_yet = let a = c.actions e.before (rw at action) in sym a ∙ closed;
-    leads = rw (← to) (direct e among);
+    leads = rw (← to) (one_link _ _ (linked e among));
   }
   from_open y e among to closed before at (inr gate) further =
       let w = graph.within e among in

@@ -25,7 +25,7 @@ module _ (s : Setting) where
     came_nowhere at a = record { lines = []; runs = here at a.rest; told = none; said = λ steady open_still. said_none at a.rest }
 
     -- memory runs out between two transitions
-    pub lacks_memory : (at : RunStanding) (a : AnswersView) → IsBetween s.cluster s.promotions s.whole at → RunEndsBetween Follows s at a a (transition_number_at at)
+    pub lacks_memory : (at : RunStanding) (a : AnswersView) → IsBetween at → RunEndsBetween Follows s at a a (transition_number_at at)
     lacks_memory at a between = record { at = at; lines = []; runs = here at a.rest; told = none; between = between; few = omega arith }
 
   pub said_then : (from middle at : RunStanding) (lines more : List RunLine) (rest between left : Option (List Answer)) → IsSaid s from middle lines rest between

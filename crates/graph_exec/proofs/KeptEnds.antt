@@ -35,7 +35,7 @@ use Rattle.graph_exec.specs.Inner.Turns.{IsSaid, journal_back, plain_of}
 use Rattle.graph_exec.proofs.Joined.{said_none, said_then}
 use Rattle.graph_exec.proofs.KeptPlans.{each_more, within_each}
 use Rattle.graph_exec.proofs.Quiet.{stays_said}
-use Rattle.graph_exec.proofs.Whole.{asks_still, events_in}
+use Rattle.graph_exec.proofs.Whole.{events_in}
 
 -- events behind the last of some transitions add their lines
 lines_behind : (c : Cluster) (es ys : List Event) (passed : List Passed) → 0 < length passed → AreWithin (length es) passed
@@ -149,7 +149,7 @@ module _ (s : Setting) (es : List Event) (first : Option (List Answer)) where
               last = w.last;
               steps = subst (λ (x : List RunLine). Runs s.cluster s.promotions false (due 1 es) (Some (of.answers ++ [])) x w.last (Some [])) (printed journal w.last w.leaves)
                   (of.runs []);
-              asking = asks_still s.cluster s.promotions s.whole false w.last w.asking;
+              asking = w.asking;
               leaves = ap events_in w.leaves;
             };
           };

@@ -10,7 +10,7 @@ use Rattle.graph_exec.specs.declared.transition.watcher.Heard.TheVariants as hea
 use Rattle.graph_exec.specs.declared.transition.watcher.Watcher.{Ghosts as WatcherOf}
 use Rattle.graph_exec.specs.Inner.KeptTransitions.{IsUnanswered, kept_end}
 use Rattle.graph_exec.specs.KnownJournals.{KnownJournalOf}
-use Rattle.graph_exec.specs.KeptRuns.{kept_word}
+use Rattle.graph_exec.specs.KeptRuns.{kept_run_word}
 use Rattle.graph_exec.specs.LastWords.{none_failed, SourceLasts, WatcherLasts}
 use Rattle.graph_exec.specs.Replays.{replay_heard, replay_word}
 use Rattle.graph_exec.proofs.Lasts.{source_open}
@@ -27,7 +27,7 @@ watcher_unanswered v old new whole j rest left over (Err stop.NoMemory) w a = a
 
 -- the last word where the run is kept
 module _ {A : Type 0} (s : OutcomesOf A) (old new : A) where
-  pub source_keeping : (end : Result Journal (ReplayStop Journal)) → SourceLasts s old new (replay_word end) → SourceLasts s old new (kept_word end)
+  pub source_keeping : (end : Result Journal (ReplayStop Journal)) → SourceLasts s old new (replay_word end) → SourceLasts s old new (kept_run_word end)
   source_keeping (Ok journal) a = a
   source_keeping (Err (stop.Unexpected journal given)) a = a
   source_keeping (Err (stop.SourceFault journal)) a = a
@@ -35,7 +35,7 @@ module _ {A : Type 0} (s : OutcomesOf A) (old new : A) where
   source_keeping (Err (stop.Most journal)) a = a
   source_keeping (Err stop.NoMemory) a = source_open s old new none_failed a
 
-  pub source_kept : (passed : List Passed) (end : Result Journal (ReplayStop Journal)) → SourceLasts s old new (kept_word end) → SourceLasts s old new (kept_word (kept_end passed end))
+  pub source_kept : (passed : List Passed) (end : Result Journal (ReplayStop Journal)) → SourceLasts s old new (kept_run_word end) → SourceLasts s old new (kept_run_word (kept_end passed end))
   source_kept passed (Ok journal) a = a
   source_kept passed (Err (stop.Unexpected journal given)) a = a
   source_kept passed (Err (stop.SourceFault journal)) a = a

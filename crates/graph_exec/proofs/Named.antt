@@ -13,6 +13,7 @@ use Rattle.cluster_types.specs.Plans.{IsPlaced}
 use Rattle.cluster_types.specs.Reasons.{IsFirstOf, IsHeldByColocation, IsHeldByOrder}
 use Rattle.cluster_types.specs.Tables.{Targets}
 use Rattle.cluster_types.specs.Valid.{IsValid}
+use Rattle.cluster_types.proofs.LeafReasons.{reason_told}
 use Rattle.crm_lex.specs.Names.{is_name}
 use Rattle.plan_laws.proofs.Firsts.{first_in}
 use Rattle.graph_exec.specs.WatcherLines.{ReasonsHaveNames}
@@ -28,6 +29,6 @@ module _ (c : Cluster) (valid : IsValid c) where
 
   pub reasons_named : (es : List Event) (promotions : List Promotion) (placed : Placed) → IsPlaced c es promotions placed → ReasonsHaveNames placed
   reasons_named es promotions placed is r id held =
-      let why = is.reasons r (Some (Held id)) held in
+      let why = reason_told c es promotions placed is r (Some (Held id)) held in
       let by = why.2.1 in
       rule_named es _ r by.node id by.rule

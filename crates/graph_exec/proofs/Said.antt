@@ -4,7 +4,7 @@ use Rattle.std.specs.Prelude.{option_map}
 use Rattle.cluster_types.specs.declared.journal.Answer.{Answer}
 use Rattle.cluster_types.specs.declared.journal.Event.{Event}
 use Rattle.cluster_types.specs.Sources.{Says, told, used_up, untold}
-use Rattle.cluster_types.specs.Steps.{Transition, StepsOn, begins, takes, is_silent, Goes, here, one_more}
+use Rattle.cluster_types.specs.Steps.{Transition, StepsOn, begins, takes, is_silent, GoesBySteps, here, one_more}
 use Rattle.graph_exec.specs.declared.transition.ends.WatchedEnd.{WatchedEnd}
 use Rattle.graph_exec.specs.declared.transition.ends.WatchedEnd.TheVariants as how
 use Rattle.graph_exec.specs.Inner.Rounds.{Began}
@@ -30,8 +30,8 @@ module _ (ys : List Answer) where
   step_more t since _ rest left (takes _ _ given said b) = takes (with_more rest) (with_more left) given (says_more rest (Some given) left said) b
   step_more t since _ rest left (is_silent _ _ k a said b) = is_silent (with_more rest) (with_more left) k a (says_more rest None left said) b
 
-  pub goes_more : (t : Transition) (since later : List Event) (rest left : Option (List Answer)) → Goes t false since rest later left
-      → Goes t false since (with_more rest) later (with_more left)
+  pub goes_more : (t : Transition) (since later : List Event) (rest left : Option (List Answer)) → GoesBySteps t false since rest later left
+      → GoesBySteps t false since (with_more rest) later (with_more left)
   goes_more t since _ rest _ (here _ _) = here since (with_more rest)
   goes_more t since later rest left (one_more _ events _ _ middle _ step more) =
       one_more since events later (with_more rest) (with_more middle) (with_more left) (step_more t since events rest middle step)

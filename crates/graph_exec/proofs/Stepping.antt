@@ -5,7 +5,7 @@ use Rattle.cluster_types.specs.declared.journal.Action.{Action}
 use Rattle.cluster_types.specs.declared.journal.Answer.{Answer}
 use Rattle.cluster_types.specs.Graphs.{IsGraph}
 use Rattle.cluster_types.specs.Sources.{untold}
-use Rattle.cluster_types.specs.Steps.{Transition, Goes, begins, takes, is_silent}
+use Rattle.cluster_types.specs.Steps.{Transition, GoesBySteps, begins, takes, is_silent}
 use Rattle.run_safety.proofs.InFlight.{number_within}
 use Rattle.run_safety.proofs.Planned.{place_of}
 use Rattle.graph_exec.specs.Executors.{ExecutorOf, BeginsNow, IsAnswerRefused, StaysSettled, IsUnderWay, Took, Went, transition_in}
@@ -19,7 +19,7 @@ under_way_on whole old new rest left h w =
     let more = (went_untold whole old new rest left w).steps in
     record {
       graph = subst IsGraph (sym (ap (λ (r : ExecutorOf). r.graph) w.same)) h.graph;
-      steps = subst (λ (t : Transition). Goes t true [] None new.since None) (sym going_is)
+      steps = subst (λ (t : Transition). GoesBySteps t true [] None new.since None) (sym going_is)
           (goes-on (transition_in old) true [] old.since new.since None None None h.steps more);
     }
 

@@ -11,7 +11,7 @@ use Rattle.cluster_types.specs.declared.run.RunLine.{RunLine}
 use Rattle.cluster_types.specs.Graphs.{GraphOf}
 use Rattle.cluster_types.specs.Plans.{CarriesOut, transition_on}
 use Rattle.cluster_types.specs.Runs.{due, amid, Runs, RunsOn, plans}
-use Rattle.cluster_types.specs.Steps.{Transition, Goes}
+use Rattle.cluster_types.specs.Steps.{Transition, GoesBySteps}
 use Rattle.cluster_types.specs.Texts.{event_lines}
 use Rattle.cluster_types.proofs.SourceLaws.{carries-out}
 use Rattle.graph_exec.specs.Executors.{ExecutorOf, Went, transition_in}
@@ -49,7 +49,7 @@ module _ (s : Setting) (k : ℕ) (es : List Event) (placed : Placed) (g : GraphO
 
 -- the steps of a transition of which nothing had happened, as steps of a run
 pub part_runs : (c : Cluster) (promotions : List Promotion) (whole : Bool) (k : ℕ) (t : Transition) (since later : List Event) (rest left : Option (List Answer))
-    → since ≡ [] → Goes t whole since rest later left → Runs c promotions whole (amid k t []) rest (flat_map event_lines later) (amid k t later) left
+    → since ≡ [] → GoesBySteps t whole since rest later left → Runs c promotions whole (amid k t []) rest (flat_map event_lines later) (amid k t later) left
 part_runs c promotions whole k t since later rest left fresh steps =
     let part = goes_runs c promotions whole k t [] later rest left (rw fresh at steps) in
     subst (λ (es : List Event). Runs c promotions whole (amid k t []) rest (flat_map event_lines es) (amid k t later) left) (sym part.joined) part.runs

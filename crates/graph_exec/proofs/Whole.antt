@@ -8,7 +8,7 @@ use Rattle.cluster_types.specs.declared.journal.Journal.{Journal}
 use Rattle.cluster_types.specs.declared.journal.Promotion.{Promotion}
 use Rattle.cluster_types.specs.declared.run.RunLine.{RunLine}
 use Rattle.cluster_types.specs.Journals.{Orderly}
-use Rattle.cluster_types.specs.Runs.{RunStanding, due, amid, idle, Runs, here, IsAsking, not_yet}
+use Rattle.cluster_types.specs.Runs.{RunStanding, due, Runs, here, not_yet}
 use Rattle.cluster_types.specs.Safety.{IsAtRest, IsSafeRun}
 use Rattle.graph_exec.specs.KnownJournals.{KnownJournalOf}
 use Rattle.graph_exec.specs.SourceDuties.{TakesAnswers}
@@ -16,16 +16,11 @@ use Rattle.run_safety.proofs.Rests.{at_rest, in_order}
 use Rattle.run_safety.proofs.SoFar.{runs_more}
 use Rattle.graph_exec.specs.declared.run.stop.ReplayStop.{ReplayStop}
 use Rattle.graph_exec.specs.declared.run.stop.ReplayStop.TheVariants as stop
-use Rattle.graph_exec.specs.Replays.{Setting, AnswersView, IsBetweenTwo, IsJournalKept, IsTold, OfMade, ReplaysAs, setting}
+use Rattle.graph_exec.specs.Replays.{Setting, AnswersView, IsBetweenTwo, IsJournalKept, IsRunTold, OfMade, ReplaysAs, setting}
 use Rattle.graph_exec.specs.RunEnds.{at_most}
 use Rattle.graph_exec.specs.Inner.Turns.{HasComeTo, CameTo, RunEndsAs, journal_back}
 use Rattle.graph_exec.proofs.CountedTransitions.{few_begin, few_begin_on, few_made}
 use Rattle.graph_exec.proofs.Joined.{came_nowhere}
-
-pub asks_still : (c : Cluster) (promotions : List Promotion) (one other : Bool) (at : RunStanding) → IsAsking c promotions one at → IsAsking c promotions other at
-asks_still c promotions one other (due k es) h = h
-asks_still c promotions one other (amid k t since) h = h
-asks_still c promotions one other (idle k es) h = h
 
 abbrev pub events_in : Journal → List Event
 events_in j = j.events
@@ -58,7 +53,7 @@ module _ (Follows : List RunLine → Type 0) (s : Setting) (es : List Event) (a 
         run = record {
           last = w.last;
           steps = (w.said steady).runs [];
-          asking = asks_still s.cluster s.promotions s.whole false w.last w.asking;
+          asking = w.asking;
           leaves = ap events_in w.leaves;
         };
       };
@@ -100,7 +95,7 @@ module _ (Follows : List RunLine → Type 0) (s : Setting) (es : List Event) (a 
   }
 
   pub up_to : (Stopped : List RunLine → Option RunLine → Type 0) (most : ℕ) (journal : Journal) (left : List Event) → journal.events ≡ left → HasComeTo Follows s (due 1 es) a b (due (most + 1) left)
-      → IsTold Follows Stopped s es a b most journal (at_most most)
+      → IsRunTold Follows Stopped s es a b most journal (at_most most)
   up_to Stopped most journal left is w = record {
     lines = w.lines;
     ended = subst (λ (x : List Event). Runs s.cluster s.promotions s.whole (due 1 es) a.rest w.lines (due (most + 1) x) b.rest) (sym is) w.runs;

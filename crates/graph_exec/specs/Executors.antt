@@ -9,7 +9,7 @@ use Rattle.cluster_types.specs.declared.journal.Promotion.{Promotion}
 use Rattle.cluster_types.specs.AnswersThatApply.{applies_after}
 use Rattle.cluster_types.specs.Graphs.{GraphOf, IsGraph}
 use Rattle.cluster_types.specs.Plans.{transition_on}
-use Rattle.cluster_types.specs.Steps.{Transition, Goes, Begins, TakesAnswer, is_settled, count_from_outside, answer_events, in_flight_by_number}
+use Rattle.cluster_types.specs.Steps.{Transition, GoesBySteps, Begins, TakesAnswer, is_settled, count_from_outside, answer_events, in_flight_by_number}
 use Rattle.graph_exec.specs.KnownJournals.{KnownJournalOf}
 
 -- the cluster, the graph that is carried out, the journal when it was planned with the promotion scores of the status, and the events since
@@ -35,12 +35,12 @@ later r events = record { cluster = r.cluster; graph = r.graph; planned_at = r.p
 -- what holds at every moment: the edges make a graph, and the events since the plan are steps of the transition, whatever answers there were
 pub record IsUnderWay (r : ExecutorOf) : Type 0 where
   pub graph : IsGraph r.graph
-  pub steps : Goes (transition_in r) true [] None r.since None
+  pub steps : GoesBySteps (transition_in r) true [] None r.since None
 
--- it went on by steps, which took the first of the answers to come and left the others, and nothing else of it changed
+-- it went on by steps, which took some of the answers to come, from the first on, or none, and left the others, and nothing else of it changed
 pub record Went (whole : Bool) (old new : ExecutorOf) (rest left : Option (List Answer)) : Type 0 where
   pub same : new ≡ record { cluster = old.cluster; graph = old.graph; planned_at = old.planned_at; since = new.since; promotions = old.promotions }
-  pub steps : Goes (transition_in old) whole old.since rest new.since left
+  pub steps : GoesBySteps (transition_in old) whole old.since rest new.since left
 
 -- an action begins: of those that may, the one of lowest number
 pub record BeginsNow (old new : ExecutorOf) (k : ℕ) : Type 0 where

@@ -15,13 +15,12 @@ use Rattle.cluster_types.specs.declared.run.Run.{Run}
 use Rattle.cluster_types.specs.Plans.{IsPlan, transition_of}
 use Rattle.cluster_types.specs.Steps.{Transition, HasEnded, IsWaiting, has_aborted}
 use Rattle.cluster_types.specs.Texts.{PassedFits, between, run_lines}
-use Rattle.graph_exec.specs.declared.transition.outcomes.Next.TheVariants as next
-use Rattle.graph_exec.specs.LastWords.{LastWord, none_failed, word_is, word_open}
+use Rattle.graph_exec.specs.LastWords.{LastWord, run_word, word_open}
 use Rattle.graph_exec.specs.RunEnds.{EndOfRun, EndsSo, at_most, in_failure, unexpected, with_all}
 use Rattle.graph_exec.specs.declared.run.stop.ReplayStop.{ReplayStop}
 use Rattle.graph_exec.specs.declared.run.stop.ReplayStop.TheVariants as stop
 
--- how a transition stands after these events: it has ended with all done, or aborted; or it is cut where it waits for an answer
+-- how a transition stands after these events: it has ended and nothing aborted, or it has ended aborted; or it is cut where it waits for an answer
 abbrev pub StandsSo : Transition → List Event → PassedEnd → Type 0
 StandsSo t since Complete = HasEnded t since × (has_aborted t since ≡ false)
 StandsSo t since Aborted = HasEnded t since × (has_aborted t since ≡ true)
@@ -46,24 +45,18 @@ module _ (c : Cluster) (promotions : List Promotion) where
 
   module _ (whole steady : Bool) (es : List Event) (rest left : Option (List Answer)) where
     -- the run ended so, and it is kept
-    abbrev pub IsKept : Run → EndOfRun → Type 0
-    IsKept run end = EndsSo c promotions whole steady es rest left (run_lines c run) run.journal.events end
+    abbrev pub IsRunKept : Run → EndOfRun → Type 0
+    IsRunKept run end = EndsSo c promotions whole steady es rest left (run_lines c run) run.journal.events end
 
     -- what is kept, by how the run ended, where so many transitions were allowed. No watcher stops it
     abbrev pub KeepsAs : ℕ → Result Run (ReplayStop Run) → Type 0
-    KeepsAs most (Ok run) = IsKept run with_all
-    KeepsAs most (Err (stop.Unexpected run given)) = IsKept run (unexpected given)
-    KeepsAs most (Err (stop.SourceFault run)) = IsKept run in_failure
+    KeepsAs most (Ok run) = IsRunKept run with_all
+    KeepsAs most (Err (stop.Unexpected run given)) = IsRunKept run (unexpected given)
+    KeepsAs most (Err (stop.SourceFault run)) = IsRunKept run in_failure
     KeepsAs most (Err (stop.Stopped run)) = ⊥
-    KeepsAs most (Err (stop.Most run)) = IsKept run (at_most most)
+    KeepsAs most (Err (stop.Most run)) = IsRunKept run (at_most most)
     KeepsAs most (Err stop.NoMemory) = Unit {0}
 
--- the last word of the source, by how the run ended: nothing more, an answer that doesn't apply or a failure was said last; else no question failed. Out of
--- memory it isn't told
-abbrev pub kept_word : {T : Type 0} → Result T (ReplayStop T) → LastWord
-kept_word (Ok made) = word_is next.Silent
-kept_word (Err (stop.Unexpected made given)) = word_is (next.Answer given)
-kept_word (Err (stop.SourceFault made)) = word_is next.Failed
-kept_word (Err (stop.Stopped made)) = none_failed
-kept_word (Err (stop.Most made)) = none_failed
-kept_word (Err stop.NoMemory) = word_open
+-- the last word of the source of a run that is kept. Out of memory it isn't told
+abbrev pub kept_run_word : {T : Type 0} → Result T (ReplayStop T) → LastWord
+kept_run_word end = run_word word_open end

@@ -1,7 +1,9 @@
 -- What lasts of a source of answers and of a watcher, and what a source has come to (rule of this project).
-use Rattle.std.specs.Prelude.{◌≡◌, ◌≤◌, ℕ, true}
+use Rattle.std.specs.Prelude.{◌≡◌, ◌≤◌, ℕ, true, Result, Ok, Err}
 use Rattle.cluster_io.specs.Streams.{Rose}
 use Rattle.cluster_types.specs.declared.cluster.Cluster.{Cluster}
+use Rattle.graph_exec.specs.declared.run.stop.ReplayStop.{ReplayStop}
+use Rattle.graph_exec.specs.declared.run.stop.ReplayStop.TheVariants as stop
 use Rattle.graph_exec.specs.declared.transition.ends.WatchedEnd.{WatchedEnd}
 use Rattle.graph_exec.specs.declared.transition.ends.WatchedEnd.TheVariants as how
 use Rattle.graph_exec.specs.declared.transition.outcomes.Next.{Next}
@@ -22,6 +24,16 @@ abbrev pub transition_word : WatchedEnd → LastWord
 transition_word (how.Unexpected given) = word_is (next.Answer given)
 transition_word how.SourceFault = word_is next.Failed
 transition_word _ = none_failed
+
+-- the last word of the source of a run, by how the run ended: nothing more, an answer that doesn't apply or a failure was said last; else no question failed.
+-- What is told out of memory stands beside
+abbrev pub run_word : {T : Type 0} → LastWord → Result T (ReplayStop T) → LastWord
+run_word out_of_memory (Ok made) = word_is next.Silent
+run_word out_of_memory (Err (stop.Unexpected made given)) = word_is (next.Answer given)
+run_word out_of_memory (Err (stop.SourceFault made)) = word_is next.Failed
+run_word out_of_memory (Err (stop.Stopped made)) = none_failed
+run_word out_of_memory (Err (stop.Most made)) = none_failed
+run_word out_of_memory (Err stop.NoMemory) = out_of_memory
 
 -- the source failed only where its count of faults rose
 abbrev pub IsFailureCounted : ℕ → ℕ → LastWord → Type 0

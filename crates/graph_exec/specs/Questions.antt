@@ -13,23 +13,23 @@ use Rattle.graph_exec.specs.declared.transition.ends.WatchedEnd.{WatchedEnd}
 use Rattle.graph_exec.specs.declared.transition.ends.WatchedEnd.TheVariants as how
 
 -- the line says that an answer was taken. A silent end has one too
-abbrev pub tells_answer : RunLine → Bool
-tells_answer (line.Taken given) = true
-tells_answer _ = false
+abbrev pub is_answer_line : RunLine → Bool
+is_answer_line (line.Taken given) = true
+is_answer_line _ = false
 
 -- how many lines of answers these events have, silent ends among them. Of a journal that grew in a run the difference says how many answers entered it
 abbrev pub answers_entered : List Event → ℕ
-answers_entered es = count_by tells_answer (flat_map event_lines es)
+answers_entered es = count_by is_answer_line (flat_map event_lines es)
 
 -- from one journal to a later one the source was asked no more often than answers entered it, but for so many questions beside
 pub record AskedBeside (beside before now : ℕ) (es es_now : List Event) : Type 0 where
   pub few : now + answers_entered es ≤ before + answers_entered es_now + beside
 
 -- how many questions of a transition entered no answer: the last one, where an answer doesn't apply or the source failed
-abbrev pub asked_beside : WatchedEnd → ℕ
-asked_beside (how.Unexpected given) = 1
-asked_beside how.SourceFault = 1
-asked_beside _ = 0
+abbrev pub questions_beside : WatchedEnd → ℕ
+questions_beside (how.Unexpected given) = 1
+questions_beside how.SourceFault = 1
+questions_beside _ = 0
 
 -- the events of what is handed back
 abbrev pub events_left : Journal → List Event

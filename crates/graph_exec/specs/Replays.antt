@@ -10,10 +10,9 @@ use Rattle.cluster_types.specs.declared.journal.Promotion.{Promotion}
 use Rattle.cluster_types.specs.declared.run.RunLine.{RunLine}
 use Rattle.cluster_types.specs.Journals.{Orderly}
 use Rattle.cluster_types.specs.Runs.{RunStanding, due, Runs, IsBetween, IsRunSoFar, IsStoppedRun}
-use Rattle.graph_exec.specs.LastWords.{LastWord, none_failed, word_is}
+use Rattle.graph_exec.specs.LastWords.{LastWord, none_failed, run_word}
 use Rattle.graph_exec.specs.RunEnds.{EndOfRun, EndsSo, at_most, in_failure, unexpected, with_all}
 use Rattle.graph_exec.specs.WatcherLines.{RunView, StopsAmong, transitions_in, view_between}
-use Rattle.graph_exec.specs.declared.transition.outcomes.Next.TheVariants as next
 use Rattle.graph_exec.specs.declared.transition.watcher.Heard.{Heard}
 use Rattle.graph_exec.specs.declared.transition.watcher.Heard.TheVariants as heard
 use Rattle.graph_exec.specs.declared.run.stop.ReplayStop.{ReplayStop}
@@ -43,7 +42,7 @@ sight rest over = record { rest = rest; over = over }
 -- were allowed, and no more have begun, however the run ended
 module _ (Follows : List RunLine → Type 0) (Stopped : List RunLine → Option RunLine → Type 0) (s : Setting) (es : List Event) (old new : AnswersView) (most : ℕ) where
   -- the run ended so, and each of its lines was told
-  pub record IsTold (journal : Journal) (end : EndOfRun) : Type 0 where
+  pub record IsRunTold (journal : Journal) (end : EndOfRun) : Type 0 where
     pub lines : List RunLine
     pub ended : EndsSo s.cluster s.promotions s.whole s.steady es old.rest new.rest lines journal.events end
     pub told : Follows lines
@@ -70,17 +69,17 @@ module _ (Follows : List RunLine → Type 0) (Stopped : List RunLine → Option 
     pub lines : List RunLine
     pub at : RunStanding
     pub run : Runs s.cluster s.promotions s.whole (due 1 es) old.rest lines at new.rest
-    pub between : IsBetween s.cluster s.promotions s.whole at
+    pub between : IsBetween at
     pub told : Follows lines
     pub few : transitions_in lines ≤ most
 
   -- which run was made, and what the watcher was told of it, by how it ended
   abbrev pub ReplaysAs : Result Journal (ReplayStop Journal) → Type 0
-  ReplaysAs (Ok journal) = IsTold journal with_all
-  ReplaysAs (Err (stop.Unexpected journal given)) = IsTold journal (unexpected given)
-  ReplaysAs (Err (stop.SourceFault journal)) = IsTold journal in_failure
+  ReplaysAs (Ok journal) = IsRunTold journal with_all
+  ReplaysAs (Err (stop.Unexpected journal given)) = IsRunTold journal (unexpected given)
+  ReplaysAs (Err (stop.SourceFault journal)) = IsRunTold journal in_failure
   ReplaysAs (Err (stop.Stopped journal)) = IsStopped journal ⊎ IsStoppedAsking journal
-  ReplaysAs (Err (stop.Most journal)) = IsTold journal (at_most most)
+  ReplaysAs (Err (stop.Most journal)) = IsRunTold journal (at_most most)
   ReplaysAs (Err stop.NoMemory) = IsBetweenTwo
 
 -- the fact holds of what is handed back: the journal, or the run that is kept. Out of memory, nothing is
@@ -125,14 +124,9 @@ abbrev pub IsReplayExpected : {T : Type 0} → Result T (ReplayStop T) → Type 
 IsReplayExpected (Err (stop.Unexpected made given)) = ⊥
 IsReplayExpected _ = Unit {0}
 
--- the last word of the source, by how the run ended: nothing more, an answer that doesn't apply or a failure was said last; else no question failed
+-- the last word of the source of a run. Out of memory no question failed
 abbrev pub replay_word : Result Journal (ReplayStop Journal) → LastWord
-replay_word (Ok journal) = word_is next.Silent
-replay_word (Err (stop.Unexpected journal given)) = word_is (next.Answer given)
-replay_word (Err (stop.SourceFault journal)) = word_is next.Failed
-replay_word (Err (stop.Stopped journal)) = none_failed
-replay_word (Err (stop.Most journal)) = none_failed
-replay_word (Err stop.NoMemory) = none_failed
+replay_word end = run_word none_failed end
 
 -- what the watcher said at last: it went on each time, or has stopped the run
 abbrev pub replay_heard : Result Journal (ReplayStop Journal) → Heard

@@ -10,7 +10,8 @@ use Rattle.cluster_types.specs.Steps.{is_from_outside, silent_end}
 use Rattle.graph_exec.specs.declared.transition.outcomes.Next.{Next}
 use Rattle.graph_exec.specs.declared.transition.outcomes.Next.TheVariants as next
 
--- from the answers to come before to those after: an answer is the first of them, nothing more is said where there are none, and a failure leaves them as they were
+-- from the answers to come before to those after: an answer is the first of them, nothing more is said where there are none and they are known to be all, and a
+-- failure leaves them as they were
 abbrev pub GivesNext : Bool → Option (List Answer) → Option (List Answer) → Next → Type 0
 GivesNext whole before after (next.Answer given) = Says whole before (Some given) after
 GivesNext whole before after next.Silent = Says whole before None after

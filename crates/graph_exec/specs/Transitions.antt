@@ -69,8 +69,8 @@ pub record WentAsSaid (old new : ExecutorOf) (rest left : Option (List Answer)) 
   pub went : Went false old new (Some answers) (Some [])
   pub taken : TakesAnswers rest answers left
 
--- what a steady source has said: where it fails, or isn't over at the end, no action has ended silently, and the steps took the answers that it gave. One
--- that was over before doesn't fail
+-- what a steady source has said. Where it failed it wasn't over before, and where it isn't over now: no action has ended silently, and the steps took just the
+-- answers that it gave
 pub record HasSaidAll (old new : ExecutorOf) (rest left : Option (List Answer)) (over over_now : Bool) (end : WatchedEnd) : Type 0 where
   pub failed : end ≡ how.SourceFault → WentAsSaid old new rest left
   pub not_over : end ≡ how.SourceFault → over ≡ false

@@ -43,7 +43,8 @@ status_lines marks lines = slice_range lines (marks.status_at + 1) marks.results
 abbrev pub following_lines : SectionMarks → List Line → List Line
 following_lines marks lines = slice_range lines (marks.results_at + 1) marks.end
 
--- one more than the number of the last of some lines, and 1 where there is none. A line that goes on has the number of its first physical line
+-- one more than the number of the last of some lines, and 1 where there is none. Only lines with words are among them; one that goes on has the number of its
+-- first physical line
 abbrev pub line_behind : List Line → ℕ
 line_behind lines = option_map_or (λ (line : Line). line.line + 1) (slice_get lines (length lines - 1)) 1
 

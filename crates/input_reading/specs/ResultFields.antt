@@ -1,4 +1,4 @@
--- Which numbers the type of an answer holds. The definitions bound them nowhere else (rule of this project).
+-- Which numbers the type of an answer holds. Each answer that is read has them (rule of this project).
 use Rattle.std.specs.Prelude.{◌^◌, ◌<◌}
 use Rattle.cluster_types.specs.declared.journal.Answer.{Answer}
 use Rattle.cluster_types.specs.declared.journal.Answer.TheVariants as answer

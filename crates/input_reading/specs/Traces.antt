@@ -13,7 +13,7 @@ use Rattle.input_reading.specs.declared.input.trace.Trace.{Trace}
 use Rattle.input_reading.specs.Reading.{line_behind, reading_steps}
 use Rattle.input_reading.specs.Sections.{sections_with_trace}
 
--- the lines of a run follow. The number is that behind the last line of the text
+-- the lines of a run follow. The number is that behind the last line of the text that has words
 unfoldable pub with_run : ℕ → Head → List Line → Result Trace (Fault InputCause)
 with_run after head lines = do
   run ← faulting cause.Run (read_run_lines head.cluster lines)

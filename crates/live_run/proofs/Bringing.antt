@@ -14,7 +14,7 @@ use Rattle.crm_lex.specs.declared.fault.LexCause.TheVariants.{LineTooLong}
 use Rattle.crm_lex.proofs.PhysicalLines.{concat-lines, few_lines}
 use Rattle.live_run.specs.AnswersToCome.{AreReady, Coming, LineReaderAt, coming, coming_of, no_more, said_first}
 use Rattle.live_run.specs.Inner.ComingSteps.{Brings, answers_in, came_first, said_came, told_coming}
-use Rattle.live_run.specs.LineSays.{line_says, place_behind_said, line_says_within, sized_says}
+use Rattle.live_run.specs.LineSays.{due_line_says, place_behind_said, line_says_within, sized_says}
 use Rattle.live_run.specs.Inner.LineFits.{SaidFits}
 use Rattle.live_run.specs.declared.result_reader.Came.TheVariants as came
 use Rattle.live_run.specs.declared.line_stop.LineCause.TheVariants as cause
@@ -40,16 +40,16 @@ some_if step room longest [] other e = absurd (other e)
 some_if step room longest (b ∷ bs) other e = omega arith
 
 -- what a line says that is handed out, and then what the others say
-module _ (c : Cluster) (longest : ℕ) (at : Place) (room : ℕ) (raw : List ℕ) (others : List (List (List ℕ))) (line : line_answer room longest (physical_lines raw) ≡ Line) where
-  first_says : line_says_within c longest at room (physical_lines raw) ≡ line_says c at raw
-  first_says = ap (λ s. sized_says c at s (physical_lines raw)) line ∙ ap (line_says c at) (concat-lines raw)
+module _ (c : Cluster) (longest room : ℕ) (at : Place) (raw : List ℕ) (others : List (List (List ℕ))) (line : line_answer room longest (physical_lines raw) ≡ Line) where
+  first_says : line_says_within c longest room at (physical_lines raw) ≡ due_line_says c at raw
+  first_says = ap (λ s. sized_says c at s (physical_lines raw)) line ∙ ap (due_line_says c at) (concat-lines raw)
 
-  pub line_first : coming c longest at room (physical_lines raw ∷ others)
-      ≡ said_first at (line_says c at raw) (coming c longest (place_behind_said at (line_says c at raw) (length (physical_lines raw))) (room - length raw) others)
+  pub line_first : coming c longest room at (physical_lines raw ∷ others)
+      ≡ said_first at (due_line_says c at raw) (coming c longest (room - length raw) (place_behind_said at (due_line_says c at raw) (length (physical_lines raw))) others)
   line_first =
-      ap (λ s. said_first at s (coming c longest (place_behind_said at s (length (physical_lines raw))) (room - length (concat (physical_lines raw))) others)) first_says
-      ∙ ap (λ (t : List ℕ). said_first at (line_says c at raw)
-      (coming c longest (place_behind_said at (line_says c at raw) (length (physical_lines raw))) (room - length t) others)) (concat-lines raw)
+      ap (λ s. said_first at s (coming c longest (room - length (concat (physical_lines raw))) (place_behind_said at s (length (physical_lines raw))) others)) first_says
+      ∙ ap (λ (t : List ℕ). said_first at (due_line_says c at raw)
+      (coming c longest (room - length t) (place_behind_said at (due_line_says c at raw) (length (physical_lines raw))) others)) (concat-lines raw)
 
 -- a line is handed out
 module _ (old new : Reading) (before after : Option (List ℕ)) (a : ReaderAnswered Line old new before after) where
@@ -108,38 +108,38 @@ module _ (old new : Reading) (before after : Option (List ℕ)) (a : ReaderAnswe
 
 line_whole : (c : Cluster) (at : Place) (old new : Reading) (before : Option (List ℕ)) (left : List ℕ) (a : ReaderAnswered Line old new before (Some left))
     → coming_of c (lines_at at old) (a.bytes ++ left)
-    ≡ came_first (said_came at.line (line_says c at new.raw))
-    (coming_of c (lines_at (place_behind_said at (line_says c at new.raw) (length (physical_lines new.raw))) new) left)
+    ≡ came_first (said_came at.line (due_line_says c at new.raw))
+    (coming_of c (lines_at (place_behind_said at (due_line_says c at new.raw) (length (physical_lines new.raw))) new) left)
 line_whole c at old new before left a =
-    let s = line_says c at new.raw in
+    let s = due_line_says c at new.raw in
     let behind = place_behind_said at s (length (physical_lines new.raw)) in
     let others = raw_lines (new.held ++ left) in
-    ap (λ (t : List ℕ). coming c old.longest at old.room (raw_lines t)) (sym (append_assoc old.held a.bytes left))
-    ∙ ap (coming c old.longest at old.room) (handed_cut old new before (Some left) a left a.at_end).lines
-    ∙ line_first c old.longest at old.room new.raw (raw_lines (new.held ++ left)) (handed_answer old new before (Some left) a left a.at_end)
-    ∙ first_same at s (coming c old.longest behind (old.room - length new.raw) others)
-    ∙ ap (λ (n : ℕ). came_first (said_came at.line s) (coming c n behind (old.room - length new.raw) others)) (sym (longest_is old new before (Some left) a))
-    ∙ ap (λ (n : ℕ). came_first (said_came at.line s) (coming c new.longest behind n others)) (sym (room_is old new before (Some left) a))
+    ap (λ (t : List ℕ). coming c old.longest old.room at (raw_lines t)) (sym (append_assoc old.held a.bytes left))
+    ∙ ap (coming c old.longest old.room at) (handed_cut old new before (Some left) a left a.at_end).lines
+    ∙ line_first c old.longest old.room at new.raw (raw_lines (new.held ++ left)) (handed_answer old new before (Some left) a left a.at_end)
+    ∙ first_same at s (coming c old.longest (old.room - length new.raw) behind others)
+    ∙ ap (λ (n : ℕ). came_first (said_came at.line s) (coming c n (old.room - length new.raw) behind others)) (sym (longest_is old new before (Some left) a))
+    ∙ ap (λ (n : ℕ). came_first (said_came at.line s) (coming c new.longest n behind others)) (sym (room_is old new before (Some left) a))
 
 pub line_brings : (c : Cluster) (at : Place) (old new : Reading) (before after : Option (List ℕ)) → ReaderAnswered Line old new before after
-    → Brings c (said_came at.line (line_says c at new.raw)) (lines_at at old)
-    (lines_at (place_behind_said at (line_says c at new.raw) (length (physical_lines new.raw))) new) before after
+    → Brings c (said_came at.line (due_line_says c at new.raw)) (lines_at at old)
+    (lines_at (place_behind_said at (due_line_says c at new.raw) (length (physical_lines new.raw))) new) before after
 line_brings c at old new before None a = ap (option_map (coming_of c (lines_at at old))) a.taken
 line_brings c at old new before (Some left) a = ap (option_map (coming_of c (lines_at at old))) a.taken ∙ ap Some (line_whole c at old new before left a)
 
 -- a line isn't given, by its size
-stops_text : (c : Cluster) (longest : ℕ) (at : Place) (room : ℕ) (text : List ℕ) (step : LineStep) (w : LineStop)
+stops_text : (c : Cluster) (longest room : ℕ) (at : Place) (text : List ℕ) (step : LineStep) (w : LineStop)
     → ((lines : List (List ℕ)) → sized_says c at step lines ≡ said.Stop w) → (step ≡ End → ⊥) → step ≡ reader_answer room longest text
-    → coming c longest at room (raw_lines text) ≡ no_more (Some w)
-stops_text c longest at room text step w sized other exact =
+    → coming c longest room at (raw_lines text) ≡ no_more (Some w)
+stops_text c longest room at text step w sized other exact =
     let some = some_if step room longest text other exact in
     let k = cut_of text some in
     let answer : line_answer room longest (physical_lines k.raw) ≡ step
     = sym (exact ∙ (answer_some room longest text some ∙ ap (λ ls. line_answer room longest (first_line_of ls)) k.lines)) in
-    let said_is : line_says_within c longest at room (physical_lines k.raw) ≡ said.Stop w
+    let said_is : line_says_within c longest room at (physical_lines k.raw) ≡ said.Stop w
     = ap (λ s. sized_says c at s (physical_lines k.raw)) answer ∙ sized (physical_lines k.raw) in
-    ap (coming c longest at room) k.lines
-    ∙ ap (λ s. said_first at s (coming c longest (place_behind_said at s (length (physical_lines k.raw))) (room - length (concat (physical_lines k.raw))) (raw_lines k.rest)))
+    ap (coming c longest room at) k.lines
+    ∙ ap (λ s. said_first at s (coming c longest (room - length (concat (physical_lines k.raw))) (place_behind_said at s (length (physical_lines k.raw))) (raw_lines k.rest)))
     said_is
 
 stop_brings : (c : Cluster) (at : Place) (old new : Reading) (before after : Option (List ℕ)) (step : LineStep) (w : LineStop) → ReaderAnswered step old new before after
@@ -148,8 +148,8 @@ stop_brings : (c : Cluster) (at : Place) (old new : Reading) (before after : Opt
 stop_brings c at old new before None step w a sized other given = ap (option_map (coming_of c (lines_at at old))) a.taken
 stop_brings c at old new before (Some left) step w a sized other given =
     ap (option_map (coming_of c (lines_at at old))) a.taken
-    ∙ ap (λ (t : List ℕ). Some (coming c old.longest at old.room (raw_lines t))) (sym (append_assoc old.held a.bytes left))
-    ∙ ap Some (stops_text c old.longest at old.room ((old.held ++ a.bytes) ++ left) step w sized other (a.exact given left a.at_end))
+    ∙ ap (λ (t : List ℕ). Some (coming c old.longest old.room at (raw_lines t))) (sym (append_assoc old.held a.bytes left))
+    ∙ ap Some (stops_text c old.longest old.room at ((old.held ++ a.bytes) ++ left) step w sized other (a.exact given left a.at_end))
 
 pub too_long_brings : (c : Cluster) (at : Place) (old new : Reading) (before after : Option (List ℕ)) → ReaderAnswered TooLong old new before after
     → Brings c (Some (came.Stop (why.Refused at.line (cause.Words LineTooLong)))) (lines_at at old) (lines_at at new) before after

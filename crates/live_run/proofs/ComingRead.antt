@@ -72,11 +72,11 @@ module _ (c : Cluster) (start room : ℕ) (at : Place) (so_far : List ResultLine
     (before : at.before ≡ length so_far) where
   -- what comes of the lines behind the first, where that says this
   abbrev behind : Said → Coming
-  behind s = coming c 1048576 (place_behind_said at s (length group)) (room - length (concat group)) groups
+  behind s = coming c 1048576 (room - length (concat group)) (place_behind_said at s (length group)) groups
 
   abbrev Later : Type 0
   Later = (to : Place) (more : List ResultLine) → to.moment ≡ moment_after start more → to.before ≡ length more
-      → SaysComing c start to.line more (room - length (concat group)) groups (coming c 1048576 to (room - length (concat group)) groups)
+      → SaysComing c start to.line more (room - length (concat group)) groups (coming c 1048576 (room - length (concat group)) to groups)
 
   abbrev All : Said → Type 0
   All s = SaysComing c start at.line so_far room (group ∷ groups) (said_first at s (behind s))
@@ -163,7 +163,7 @@ module _ (c : Cluster) (start room : ℕ) (at : Place) (so_far : List ResultLine
   of_length step.Failed s own later = absurd s
 
 pub coming_is : (c : Cluster) (start room : ℕ) (at : Place) (so_far : List ResultLine) (groups : List (List (List ℕ))) → AllOwn groups → at.moment ≡ moment_after start so_far
-    → at.before ≡ length so_far → SaysComing c start at.line so_far room groups (coming c 1048576 at room groups)
+    → at.before ≡ length so_far → SaysComing c start at.line so_far room groups (coming c 1048576 room at groups)
 coming_is c start room at so_far [] own moment before = record { within = omega arith; clean = refl; read = ap Ok (sym (append-nil so_far)) }
 coming_is c start room at so_far (group ∷ groups) own moment before =
     of_length c start room at so_far group groups moment before (line_answer room 1048576 group) (size_says room group) own.0

@@ -52,7 +52,7 @@ map_size (x ∷ xs) = let n = map_size xs in omega (arith, n)
 
 -- while the answers to come are known to be not all, a run that asks for one more goes no step
 module _ (c : Cluster) (promotions : List Promotion) where
-  asks_stuck : (at : RunStanding) (rest : Option (List Answer)) → rest ≡ Some [] → IsAsking c promotions false at → (lines : List RunLine) (next : RunStanding) (left : Option (List Answer))
+  asks_stuck : (at : RunStanding) (rest : Option (List Answer)) → rest ≡ Some [] → IsAsking at → (lines : List RunLine) (next : RunStanding) (left : Option (List Answer))
       → RunsOn c promotions false at rest lines next left → ⊥
   asks_stuck _ rest e asking _ _ _ (plans k es _ placed actions plan) = asking
   asks_stuck _ rest e asking _ _ left (goes k t since events _ _ step) = step_asks t since events rest left e asking step

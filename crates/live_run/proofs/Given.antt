@@ -58,7 +58,7 @@ module _ (c : Cluster) (journal : Journal) (reading : Reading) where
             }
           where
             to_come_reading : List ℕ → Coming
-            to_come_reading rest = coming t.cluster t.lines.reading.longest t.lines.at t.lines.reading.room (raw_lines (t.lines.reading.held ++ rest))
+            to_come_reading rest = coming t.cluster t.lines.reading.longest t.lines.reading.room t.lines.at (raw_lines (t.lines.reading.held ++ rest))
 
         by : (k : Course) → t.course ≡ k → RestsBehind start t after p.lines p.bytes k
             → WasAskedFor c journal reading left after (record { results = p.given; stop = None }) ⊎ WasAllAskedFor c journal reading left after (record { results = p.given; stop = None })

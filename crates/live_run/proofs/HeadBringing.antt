@@ -2,7 +2,6 @@
 use Rattle.std.proofs.Common.{◌≡◌, ℕ, ◌+◌, ◌-◌, ◌^◌, ◌≤◌, ◌<◌, Bool, true, false, if◌then◌else◌, Option, Some, None, Result, Ok, Err, List, [], ◌∷◌, ◌++◌, length, length-append, option_map, append_assoc, refl, ap, subst, sym, ◌∙◌, arith}
 use Rattle.std.specs.Bool.{then_some}
 use Rattle.std.specs.List.{concat}
-use Rattle.std.proofs.lemmas.List.Sums.{sum_by-cons}
 use Rattle.cluster_io.specs.NextLine.{reader_answer, first_line_of, line_answer}
 use Rattle.cluster_io.specs.Readings.{Reading, ReaderAnswered}
 use Rattle.cluster_io.specs.declared.line_step.LineStep.{LineStep}
@@ -16,7 +15,7 @@ use Rattle.crm_lex.proofs.PhysicalLines.{concat-lines, few_lines}
 use Rattle.faults.specs.declared.fault.Fault.{Fault}
 use Rattle.input_reading.specs.declared.input.cause.InputCause.TheVariants.{Words}
 use Rattle.live_run.specs.SourceFollowed.{bytes_of, count_lines}
-use Rattle.live_run.specs.Heads.{AllGoOnBehind, CanGoOn, HeadFound, KeepsBytes, LineOfHead, begins_results, ends_head, goes_on_behind, has_bad_words, head_behind, head_found, line_by_size, line_by_words, line_of_head, passes_limit, so_far, refused, taken, too_large, found_by}
+use Rattle.live_run.specs.Heads.{AllGoOnBehind, CanGoOn, HeadFound, KeepsBytes, LineOfHead, begins_results, ends_head, goes_on_behind, has_bad_words, head_behind, head_found, head_line_behind, line_by_size, line_by_words, line_of_head, passes_limit, so_far, refused, taken, too_large, found_by}
 use Rattle.live_run.specs.Inner.HeadSteps.{BringsHead, came_to, lacks_memory, WhileWell}
 use Rattle.live_run.specs.declared.head.HeadStop.{HeadStop}
 use Rattle.live_run.specs.declared.head.HeadStop.TheVariants as stop
@@ -39,36 +38,36 @@ words_said (Err fault) words ends came done ok is begins by text reading others 
 
 -- what a line says that is handed out
 pub line_is : (longest room n : ℕ) (raw : List ℕ) → line_answer room longest (physical_lines raw) ≡ Line
-    → line_of_head room longest n (physical_lines raw) ≡ line_by_words (reads_line n raw)
+    → line_of_head longest room n (physical_lines raw) ≡ line_by_words (reads_line n raw)
 line_is longest room n raw line =
     ap (λ s. line_by_size s n (concat (physical_lines raw))) line ∙ ap (λ (t : List ℕ). line_by_words (reads_line n t)) (concat-lines raw)
 
 -- and then others
-pub line_head : (longest : ℕ) (before : List ℕ) (room n : ℕ) (raw : List ℕ) (more : List (List (List ℕ))) → line_answer room longest (physical_lines raw) ≡ Line
-    → head_found longest before room n (physical_lines raw ∷ more)
+pub line_head : (longest room n : ℕ) (before raw : List ℕ) (more : List (List (List ℕ))) → line_answer room longest (physical_lines raw) ≡ Line
+    → head_found longest room n before (physical_lines raw ∷ more)
     ≡ found_by (line_by_words (reads_line n raw)) (taken (before ++ raw) (n + length (physical_lines raw)) (room - length raw))
-    (head_found longest (before ++ raw) (room - length raw) (n + length (physical_lines raw)) more)
-line_head longest before room n raw more line =
+    (head_found longest (room - length raw) (n + length (physical_lines raw)) (before ++ raw) more)
+line_head longest room n before raw more line =
     let bytes = concat (physical_lines raw) in
     let lines = length (physical_lines raw) in
     ap (λ (l : LineOfHead). found_by l (taken (before ++ bytes) (n + lines) (room - length bytes))
-    (head_found longest (before ++ bytes) (room - length bytes) (n + lines) more)) (line_is longest room n raw line)
+    (head_found longest (room - length bytes) (n + lines) (before ++ bytes) more)) (line_is longest room n raw line)
     ∙ ap (λ (t : List ℕ). found_by (line_by_words (reads_line n raw)) (taken (before ++ t) (n + lines) (room - length t))
-    (head_found longest (before ++ t) (room - length t) (n + lines) more)) (concat-lines raw)
+    (head_found longest (room - length t) (n + lines) (before ++ t) more)) (concat-lines raw)
 
 module _ (text : List ℕ) (old new : Reading) (before : Option (List ℕ)) (left : List ℕ) (a : ReaderAnswered Line old new before (Some left)) where
   -- the line, and then others
-  pub line_then : (more : List (List (List ℕ))) → head_found old.longest text old.room old.next (physical_lines new.raw ∷ more)
-      ≡ found_by (line_by_words (reads_line old.next new.raw)) (taken (text ++ new.raw) new.next new.room) (head_found new.longest (text ++ new.raw) new.room new.next more)
+  pub line_then : (more : List (List (List ℕ))) → head_found old.longest old.room old.next text (physical_lines new.raw ∷ more)
+      ≡ found_by (line_by_words (reads_line old.next new.raw)) (taken (text ++ new.raw) new.next new.room) (head_found new.longest new.room new.next (text ++ new.raw) more)
   line_then more =
-      line_head old.longest text old.room old.next new.raw more (handed_answer old new before (Some left) a left a.at_end)
+      line_head old.longest old.room old.next text new.raw more (handed_answer old new before (Some left) a left a.at_end)
       ∙ rw (longest_is old new before (Some left) a, room_is old new before (Some left) a, next_is old new before (Some left) a) refl
 
   line_whole : head_behind text old (a.bytes ++ left)
       ≡ found_by (line_by_words (reads_line old.next new.raw)) (taken (text ++ new.raw) new.next new.room) (head_behind (text ++ new.raw) new left)
   line_whole =
-      ap (λ (t : List ℕ). head_found old.longest text old.room old.next (raw_lines t)) (sym (append_assoc old.held a.bytes left))
-      ∙ ap (head_found old.longest text old.room old.next) (handed_cut old new before (Some left) a left a.at_end).lines
+      ap (λ (t : List ℕ). head_found old.longest old.room old.next text (raw_lines t)) (sym (append_assoc old.held a.bytes left))
+      ∙ ap (head_found old.longest old.room old.next text) (handed_cut old new before (Some left) a left a.at_end).lines
       ∙ line_then (raw_lines (new.held ++ left))
 
 -- a line behind which there is found what the others have is one behind which the head goes on
@@ -84,26 +83,49 @@ only_on passes_limit with_it h = let none : taken [] 0 0 ≡ too_large = h (take
 pub line_on : (text : List ℕ) (old new : Reading) (before : Option (List ℕ)) (left : List ℕ) → ReaderAnswered Line old new before (Some left)
     → (came : Option (Result (Unit {0}) HeadStop)) → came ≡ None
     → ((others : HeadFound) → came_to came text new others ≡ found_by (line_by_words (reads_line old.next new.raw)) (taken text new.next new.room) others)
-    → line_of_head old.room old.longest old.next (physical_lines new.raw) ≡ goes_on_behind
+    → line_of_head old.longest old.room old.next (physical_lines new.raw) ≡ goes_on_behind
 line_on text old new before left a came none says =
     line_is old.longest old.room old.next new.raw (handed_answer old new before (Some left) a left a.at_end)
     ∙ only_on (line_by_words (reads_line old.next new.raw)) (taken text new.next new.room)
     (λ others. ap (λ (k : Option (Result (Unit {0}) HeadStop)). came_to k text new others) (sym none) ∙ says others)
 
+-- no line is behind which it doesn't
+pub none_go_on : (longest room n : ℕ) → AllGoOnBehind longest room n []
+none_go_on longest room n [] after lines e = cc
+none_go_on longest room n (first ∷ before) after lines e = cc
+
+-- the last of some lines and one more, or one before it
+module _ {X : Type 0} (R : Type 0) (y z : X) where
+  one_apart : (before after : List X) → y ∷ [] ≡ before ++ z ∷ after → (before ≡ [] → y ≡ z → R) → R
+  one_apart [] after e last = last refl (same_heads e)
+    where
+      same_heads : {u v : X} {us vs : List X} → u ∷ us ≡ v ∷ vs → u ≡ v
+      same_heads f = cc
+  one_apart (b ∷ []) after e last = cc
+  one_apart (b ∷ d ∷ before) after e last = cc
+
+  last_apart : (xs before after : List X) → xs ++ y ∷ [] ≡ before ++ z ∷ after → ((rest : List X) → xs ≡ before ++ z ∷ rest → R) → (before ≡ xs → y ≡ z → R) → R
+  last_apart [] before after e among last = one_apart before after e last
+  last_apart (x ∷ xs) [] after e among last = among xs (let same : x ≡ z = cc in ap (λ (t : X). t ∷ xs) same)
+  last_apart (x ∷ xs) (b ∷ before) after e among last =
+      let same : x ≡ b = cc in
+      let others : xs ++ y ∷ [] ≡ before ++ z ∷ after = cc in
+      last_apart xs before after others (λ rest f. among rest (ap (λ (t : List X). x ∷ t) f ∙ ap (λ (t : X). t ∷ (before ++ z ∷ rest)) same))
+      (λ f. last (ap (λ (t : List X). b ∷ t) f ∙ ap (λ (t : X). t ∷ xs) (sym same)))
+
 -- some lines behind which the head goes on, and one more
 pub on_more : (longest room n : ℕ) (lines : List (List (List ℕ))) (line : List (List ℕ)) (left next : ℕ) → left ≡ room - length (bytes_of lines)
-    → next ≡ n + count_lines lines → line_of_head left longest next line ≡ goes_on_behind → AllGoOnBehind room longest n lines
-    → AllGoOnBehind room longest n (lines ++ line ∷ [])
-on_more longest room n [] line left next at_room at_line says all =
-    let none : length (bytes_of []) ≡ 0 = refl in
-    let no_lines : count_lines [] ≡ 0 = refl in
-    let here : left ≡ room = omega (arith, at_room, none) in
-    let same : next ≡ n = omega (arith, at_line, no_lines) in
-    (subst (λ (k : ℕ). line_of_head room longest k line ≡ goes_on_behind) same (subst (λ (k : ℕ). line_of_head k longest next line ≡ goes_on_behind) here says), tt)
-on_more longest room n (first ∷ lines) line left next at_room at_line says all =
-    let size = length-append (concat first) (bytes_of lines) in
-    let count = sum_by-cons (λ (one : List (List ℕ)). length one) first lines in
-    (all.0, on_more longest (room - length (concat first)) (n + length first) lines line left next (omega (arith, at_room, size)) (omega (arith, at_line, count)) says all.1)
+    → next ≡ n + count_lines lines → line_of_head longest left next line ≡ goes_on_behind → AllGoOnBehind longest room n lines
+    → AllGoOnBehind longest room n (lines ++ line ∷ [])
+on_more longest room n lines line left next at_room at_line says all before after one e =
+    last_apart (head_line_behind longest room n before one ≡ goes_on_behind) line one lines before after e
+    (λ rest f. all before rest one f)
+    (λ f same.
+    let here = at_room ∙ ap (λ (ls : List (List (List ℕ))). room - length (bytes_of ls)) (sym f) in
+    let there = at_line ∙ ap (λ (ls : List (List (List ℕ))). n + count_lines ls) (sym f) in
+    subst (λ (l : List (List ℕ)). line_of_head longest (room - length (bytes_of before)) (n + count_lines before) l ≡ goes_on_behind) same
+    (subst (λ (k : ℕ). line_of_head longest (room - length (bytes_of before)) k line ≡ goes_on_behind) there
+    (subst (λ (k : ℕ). line_of_head longest k next line ≡ goes_on_behind) here says)))
 
 pub line_brings : (came : Option (Result (Unit {0}) HeadStop)) (text : List ℕ) (old new : Reading) (before after : Option (List ℕ)) → ReaderAnswered Line old new before after
     → ((others : HeadFound) → came_to came (text ++ new.raw) new others
@@ -138,10 +160,10 @@ line_can old new before after a can = record {
 }
 
 -- a line isn't given, by its size
-stops_text : (text : List ℕ) (longest room n : ℕ) (bytes : List ℕ) (step : LineStep) (h : HeadFound)
+stops_text : (longest room n : ℕ) (text bytes : List ℕ) (step : LineStep) (h : HeadFound)
     → ((raw : List ℕ) (ends goes_on : HeadFound) → found_by (line_by_size step n raw) ends goes_on ≡ h) → (step ≡ End → ⊥) → step ≡ reader_answer room longest bytes
-    → head_found longest text room n (raw_lines bytes) ≡ h
-stops_text text longest room n bytes step h sized other exact =
+    → head_found longest room n text (raw_lines bytes) ≡ h
+stops_text longest room n text bytes step h sized other exact =
     let some = some_if step room longest bytes other exact in
     let k = cut_of bytes some in
     let answer : line_answer room longest (physical_lines k.raw) ≡ step
@@ -149,8 +171,8 @@ stops_text text longest room n bytes step h sized other exact =
     let raw = concat (physical_lines k.raw) in
     let lines = length (physical_lines k.raw) in
     let ends = taken (text ++ raw) (n + lines) (room - length raw) in
-    let others = head_found longest (text ++ raw) (room - length raw) (n + lines) (raw_lines k.rest) in
-    ap (head_found longest text room n) k.lines ∙ (ap (λ s. found_by (line_by_size s n raw) ends others) answer ∙ sized raw ends others)
+    let others = head_found longest (room - length raw) (n + lines) (text ++ raw) (raw_lines k.rest) in
+    ap (head_found longest room n text) k.lines ∙ (ap (λ s. found_by (line_by_size s n raw) ends others) answer ∙ sized raw ends others)
 
 stop_brings : (text : List ℕ) (old new : Reading) (before after : Option (List ℕ)) (step : LineStep) (why : HeadStop) (h : HeadFound) → ReaderAnswered step old new before after
     → ((raw : List ℕ) (ends goes_on : HeadFound) → found_by (line_by_size step old.next raw) ends goes_on ≡ h) → ((others : HeadFound) → came_to (Some (Err why)) text new others ≡ h)
@@ -158,8 +180,8 @@ stop_brings : (text : List ℕ) (old new : Reading) (before after : Option (List
 stop_brings text old new before None step why h a sized came other given memory = ap (option_map (head_behind text old)) a.taken
 stop_brings text old new before (Some left) step why h a sized came other given memory =
     ap (option_map (head_behind text old)) a.taken
-    ∙ ap (λ (t : List ℕ). Some (head_found old.longest text old.room old.next (raw_lines t))) (sym (append_assoc old.held a.bytes left))
-    ∙ ap Some (stops_text text old.longest old.room old.next ((old.held ++ a.bytes) ++ left) step h sized other (a.exact given left a.at_end)
+    ∙ ap (λ (t : List ℕ). Some (head_found old.longest old.room old.next text (raw_lines t))) (sym (append_assoc old.held a.bytes left))
+    ∙ ap Some (stops_text old.longest old.room old.next text ((old.held ++ a.bytes) ++ left) step h sized other (a.exact given left a.at_end)
     ∙ sym (came (head_behind text new left)))
 
 pub too_long_brings : (text : List ℕ) (old new : Reading) (before after : Option (List ℕ)) → ReaderAnswered TooLong old new before after

@@ -1,5 +1,5 @@
 -- Which logical lines of an input its head has taken, line by line.
-use Rattle.std.proofs.Common.{◌≡◌, ℕ, ◌+◌, Option, Some, None, Result, Ok, Err, List, [], ◌∷◌, ◌++◌, length, option_map, length-append, append_assoc, refl, ap, subst, sym, ◌∙◌, arith}
+use Rattle.std.proofs.Common.{◌≡◌, ℕ, ◌+◌, Option, Some, None, Result, Ok, Err, List, [], ◌∷◌, ◌++◌, length, option_map, length-append, refl, ap, subst, sym, ◌∙◌, arith}
 use Rattle.std.proofs.lemmas.List.Sums.{sum_by-append}
 use Rattle.cluster_io.specs.Readings.{ReaderAnswered, Reading}
 use Rattle.cluster_io.specs.declared.line_step.LineStep.{LineStep}
@@ -13,8 +13,8 @@ use Rattle.live_run.specs.declared.head.HeadStop.{HeadStop}
 use Rattle.live_run.specs.declared.head.HeadStop.TheVariants as stop
 use Rattle.live_run.specs.Inner.ReadLaws.{bytes_joined, lines_joined, whole_then}
 use Rattle.live_run.proofs.Bringing.{longest_is, next_is, room_is}
-use Rattle.live_run.proofs.HeadBringing.{line_on, next_stays, on_more}
-use Rattle.live_run.proofs.Stepping.{bytes_one, handed_parts, line_cut, line_open, line_stands, still_open, unmoved, unmoved_cut, was_open}
+use Rattle.live_run.proofs.HeadBringing.{line_on, next_stays, none_go_on, on_more}
+use Rattle.live_run.proofs.Stepping.{bytes_one, line_cut, line_open, line_stands, still_open, unmoved, unmoved_cut, was_open}
 
 -- none yet
 pub none_taken : (reading : Reading) (left : Option (List ℕ)) → HasTaken reading reading [] left left
@@ -24,7 +24,7 @@ none_taken reading (Some left) = record { lines = []; text_is = refl; cut = refl
 pub none_gone : (reading : Reading) (left : Option (List ℕ)) → HasHeadGoneOn reading reading [] left left
 unfolding none_taken
 none_gone reading None = record { taken = none_taken reading None; same_size = refl; goes_on = tt }
-none_gone reading (Some left) = record { taken = none_taken reading (Some left); same_size = refl; goes_on = tt }
+none_gone reading (Some left) = record { taken = none_taken reading (Some left); same_size = refl; goes_on = none_go_on reading.longest reading.room reading.next }
 
 module _ (first old new : Reading) (text : List ℕ) (given before after : Option (List ℕ)) (t : HasTaken first old text given before) where
   -- one more is handed out
@@ -38,7 +38,7 @@ module _ (first old new : Reading) (text : List ℕ) (given before after : Optio
     whole = λ now.
         let unended = line_open old new before after a now in
         let first = t.whole (was_open Line old new before after a unended) in
-        (first.0, whole_then t.lines line old.held a.bytes new.held (handed_parts old new before after a) first.1 (line_stands old new before after a unended));
+        (first.0, whole_then t.lines line first.1 (line_stands old new before after a unended));
     number =
         let number = t.number in
         let next = next_is old new before after a in
@@ -63,14 +63,7 @@ module _ (first old new : Reading) (text : List ℕ) (given before after : Optio
         lines = t.lines;
         text_is = t.text_is;
         cut = t.cut ∙ behind before after (unmoved_cut old new before after a.bytes a.taken u.0);
-        whole = λ unended.
-            let first = t.whole (still_open step old new before after a other unended) in (
-              first.0,
-              λ rest. (
-                  let more : new.held ++ rest ≡ old.held ++ (a.bytes ++ rest) = ap (λ (x : List ℕ). x ++ rest) u.0 ∙ append_assoc old.held a.bytes rest in
-                  ap (λ (x : List ℕ). raw_lines (bytes_of t.lines ++ x)) more
-                  ∙ (first.1 (a.bytes ++ rest) ∙ ap (λ (x : List ℕ). t.lines ++ raw_lines x) (sym more))),
-            );
+        whole = λ unended. t.whole (still_open step old new before after a other unended);
         number = next_stays step old new before after a other ∙ t.number;
         room = ap (λ (n : ℕ). length text + n) u.1.0 ∙ t.room;
       }
@@ -102,7 +95,7 @@ module _ (first old new : Reading) (text : List ℕ) (given : Option (List ℕ))
         let size = ap length h.taken.text_is in
         let room = h.taken.room in
         on_more first.longest first.room first.next h.taken.lines (physical_lines new.raw) old.room old.next (omega (arith, size, room)) h.taken.number
-        (subst (λ (n : ℕ). line_of_head old.room n old.next (physical_lines new.raw) ≡ goes_on_behind) h.same_size
+        (subst (λ (n : ℕ). line_of_head n old.room old.next (physical_lines new.raw) ≡ goes_on_behind) h.same_size
         (line_on (text ++ new.raw) old new (Some bytes) left a came none says)) h.goes_on;
   }
 

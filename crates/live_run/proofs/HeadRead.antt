@@ -177,7 +177,7 @@ module _ (before : List ℕ) (room n : ℕ) (group : List (List ℕ)) (groups : 
   of_size verdict step.End s own h = absurd s
   of_size verdict step.Failed s own h = absurd s
 
-pub head_is : (before : List ℕ) (room n : ℕ) (groups : List (List (List ℕ))) → AllOwn groups → SaysHead before room n groups (heads.head_found 1048576 before room n groups)
+pub head_is : (before : List ℕ) (room n : ℕ) (groups : List (List (List ℕ))) → AllOwn groups → SaysHead before room n groups (heads.head_found 1048576 room n before groups)
 head_is before room n [] own = record {
   first = [];
   more = [];
@@ -190,5 +190,5 @@ head_is before room n [] own = record {
   ends = with_all refl refl;
 }
 head_is before room n (group ∷ groups) own =
-    of_size before room n group groups (heads.head_found 1048576 (before ++ concat group) (room - length (concat group)) (n + length group) groups) (line_answer room 1048576 group)
+    of_size before room n group groups (heads.head_found 1048576 (room - length (concat group)) (n + length group) (before ++ concat group) groups) (line_answer room 1048576 group)
     (size_says room group) own.0 (head_is (before ++ concat group) (room - length (concat group)) (n + length group) groups own.1)

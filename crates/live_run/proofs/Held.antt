@@ -15,7 +15,7 @@ use Rattle.faults.specs.declared.fault.Fault.{Fault}
 use Rattle.input_reading.specs.declared.history_fault.ResultCause.{ResultCause}
 use Rattle.live_run.specs.AnswersAtHand.{HoldsResultLine}
 use Rattle.live_run.specs.Inner.ComingSteps.{said_came}
-use Rattle.live_run.specs.LineSays.{answer_says, line_says, read_says, words_say}
+use Rattle.live_run.specs.LineSays.{answer_says, due_line_says, read_says, words_say}
 use Rattle.live_run.specs.declared.place.Place.{Place}
 use Rattle.live_run.specs.declared.line_saying.Said.{Said}
 use Rattle.live_run.specs.declared.line_saying.Said.TheVariants as said
@@ -49,13 +49,13 @@ module _ (old new : Reading) (before after : Option (List ℕ)) (h : HoldsResult
   same_held bytes came = ap (λ (t : List ℕ). old.held ++ t) (came_none old.held bytes came h.whole) ∙ append-nil old.held
 
   -- it says something
-  pub line_says_some : (c : Cluster) (at : Place) (line : ℕ) → ReaderAnswered step.Line old new before after → said_came line (line_says c at new.raw) ≢ None
+  pub line_says_some : (c : Cluster) (at : Place) (line : ℕ) → ReaderAnswered step.Line old new before after → said_came line (due_line_says c at new.raw) ≢ None
   line_says_some c at line a e =
       let lines : physical_lines new.raw ≡ first_line old.held
       = sym (sym (ap first_line (append-nil (old.held ++ a.bytes) ∙ same_held a.bytes a.needed)) ∙ a.leaves.first [] (λ ended. refl)) in
       read_said c at (first_lex_fault (faults at.line (physical_lines new.raw))) (words_of (line_text (physical_lines new.raw)))
       (λ none. h.has_words (sym (ap (λ (ls : List (List ℕ)). words_of (line_text ls)) lines) ∙ none))
-      (none_said line (line_says c at new.raw) e)
+      (none_said line (due_line_says c at new.raw) e)
 
   -- and the source isn't read
   pub never_fails : ReaderAnswered step.Failed old new before after → ⊥

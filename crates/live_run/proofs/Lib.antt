@@ -7,6 +7,7 @@ pub mod Fitting
 pub mod WordsSaid
 pub mod Bringing
 pub mod Unfinished
+pub mod Standing
 pub mod Stepping
 pub mod Asked
 pub mod NoFault
@@ -16,6 +17,8 @@ pub mod Ready
 pub mod Held
 pub mod HeadBringing
 pub mod HeadLines
+pub mod HeadsSaid
+pub mod Places
 pub mod LinesJoined
 pub mod HeadRead
 pub mod ComingRead

@@ -50,10 +50,10 @@ first_no_fault at said.Nothing others h none = none
 first_no_fault at (said.Answer given) others h none = none
 first_no_fault at (said.Stop w) others h none = last_no_fault w h
 
-pub coming_no_fault : (c : Cluster) (longest : ℕ) (at : Place) (room : ℕ) (lines : List (List (List ℕ))) → (coming c longest at room lines).stop ≢ Some why.ReadFault
-coming_no_fault c longest at room [] = λ e. cc
-coming_no_fault c longest at room (lines ∷ more) =
-    let says = line_says_within c longest at room lines in
+pub coming_no_fault : (c : Cluster) (longest room : ℕ) (at : Place) (lines : List (List (List ℕ))) → (coming c longest room at lines).stop ≢ Some why.ReadFault
+coming_no_fault c longest room at [] = λ e. cc
+coming_no_fault c longest room at (lines ∷ more) =
+    let says = line_says_within c longest room at lines in
     let next = place_behind_said at says (length lines) in
     let left = room - length (concat lines) in
-    first_no_fault at says (coming c longest next left more) (sized_no_fault c at (line_answer room longest lines) lines) (coming_no_fault c longest next left more)
+    first_no_fault at says (coming c longest left next more) (sized_no_fault c at (line_answer room longest lines) lines) (coming_no_fault c longest left next more)

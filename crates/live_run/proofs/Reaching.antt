@@ -29,7 +29,7 @@ use Rattle.live_run.specs.declared.course.Course.TheVariants as course
 use Rattle.live_run.specs.declared.line_stop.LineStop.{LineStop}
 use Rattle.live_run.specs.declared.line_stop.LineStop.TheVariants as why
 use Rattle.live_run.specs.Ends.{AsksForMore, EndGets, IsDueEnd, WholeRunGives, run_lines_text}
-use Rattle.live_run.specs.RunReached.{HasReadFailed, HasSinkFailed, Reaches, of_held_back, in_run, of_refusal, of_unexpected, results_behind}
+use Rattle.live_run.specs.RunReached.{HasReadFailed, HasSinkFailed, ReachesEnd, of_held_back, in_run, of_refusal, of_unexpected, results_behind}
 use Rattle.live_run.specs.Inner.RunEnds.{EndsLines, end_as}
 use Rattle.live_run.specs.declared.live_end.LiveEnd.{LiveEnd}
 use Rattle.live_run.specs.declared.live_end.LiveEnd.TheVariants as end
@@ -37,7 +37,6 @@ use Rattle.live_run.proofs.Behind.{answer_in}
 use Rattle.live_run.proofs.Dues.{begins_due, one_end}
 use Rattle.input_reading.specs.declared.results.result_lines.ResultLine.{ResultLine}
 use Rattle.graph_exec.specs.Replays.{setting, sight}
-use Rattle.graph_exec.proofs.Whole.{asks_still}
 use Rattle.live_run.specs.HeldAndWritten.{WritesInPart, GoesOut, Puts, PutsLast, last_text, most_held}
 use Rattle.graph_exec.specs.Replays as replays
 use Rattle.graph_exec.specs.RunEnds.{in_failure, unexpected, with_all}
@@ -75,7 +74,7 @@ module _ (c : Cluster) (journal : Journal) (reading : Reading) where
     along = setting c journal.promotions (whole_of (told_by start before)) true
 
     abbrev reaches : LiveEnd → Type 0
-    reaches how = IfSome before (λ left. Reaches c journal reading left after old new how)
+    reaches how = IfSome before (λ left. ReachesEnd c journal reading left after old new how)
 
   -- what the writer has come to says what was written
   module _ (Follows : List RunLine → Type 0) (Stopped : List RunLine → Option RunLine → Type 0) (most : ℕ) where
@@ -83,7 +82,7 @@ module _ (c : Cluster) (journal : Journal) (reading : Reading) where
     Tells old new held = (lines : List RunLine) → Follows lines → GoesOut (run_lines_text c lines) [] held old new
 
     -- where nothing is to be done, it stands between two transitions
-    over_between : (whole : Bool) (at : RunStanding) (rest : Option (List Answer)) → IsOver c journal.promotions whole at rest → IsBetween c journal.promotions whole at
+    over_between : (whole : Bool) (at : RunStanding) (rest : Option (List Answer)) → IsOver c journal.promotions whole at rest → IsBetween at
     over_between whole (due k es) rest over = tt
     over_between whole (amid k u since) rest over = absurd over
     over_between whole (idle k es) rest over = tt
@@ -92,7 +91,7 @@ module _ (c : Cluster) (journal : Journal) (reading : Reading) where
     rest_cut : (left : List ℕ) (after old new : Option (List ℕ)) (t : SourceState) → SourceFollows start t (Some left) after → (lines : List RunLine) (at : RunStanding)
         → Runs c journal.promotions (is_none (results_behind c journal reading left).stop) (due 1 journal.events) (Some (answers_to_come (results_behind c journal reading left))) lines at
         (rest_of (told_by t after))
-        → IsAsking c journal.promotions (is_none (results_behind c journal reading left).stop) at ⊎ IsBetween c journal.promotions (is_none (results_behind c journal reading left).stop) at
+        → IsAsking at ⊎ IsBetween at
         → WritesInPart (run_lines_text c lines) [] old new → HasSinkFailed c journal reading left after old new
     rest_cut left after old new t f lines at runs rests cut =
         let g = given_by c journal reading left after t f in
@@ -102,7 +101,7 @@ module _ (c : Cluster) (journal : Journal) (reading : Reading) where
           call = of_held_back (record {
             printed = lines;
             at = at;
-            asked = record { results = g.given; stop = None };
+            asked_for = record { results = g.given; stop = None };
             behind = g.behind;
             split = g.split;
             run = run;
@@ -117,7 +116,7 @@ module _ (c : Cluster) (journal : Journal) (reading : Reading) where
         }
 
     done_reached : (before after old middle new : Option (List ℕ)) (held : List ℕ) (t : SourceState) (was is : Bool) (j : Journal) → Tells old middle held
-        → replays.IsTold Follows Stopped (along before after old middle t was is) journal.events (sight (rest_of (told_by start before)) was) (sight (rest_of (told_by t after)) is) most j with_all
+        → replays.IsRunTold Follows Stopped (along before after old middle t was is) journal.events (sight (rest_of (told_by start before)) was) (sight (rest_of (told_by t after)) is) most j with_all
         → SourceFollows start t before after → (r : Result (Unit {0}) WriteFault) → Puts r held middle new → length held ≤ most_held → reaches before after old new t was is (end_as end.Done r)
     done_reached None after old middle new held t was is j tells w f r e few = tt
     done_reached (Some left) after old middle new held t was is j tells w f r e few = by r e
@@ -130,7 +129,7 @@ module _ (c : Cluster) (journal : Journal) (reading : Reading) where
             subst (λ (x : Option (List Answer)). Runs c journal.promotions (is_none all.stop) (due 1 journal.events) (Some (answers_to_come all)) w.lines w.ended.run.last x) (sym w.ended.unread)
             w.ended.run.steps
 
-        by : (q : Result (Unit {0}) WriteFault) → Puts q held middle new → Reaches c journal reading left after old new (end_as end.Done q)
+        by : (q : Result (Unit {0}) WriteFault) → Puts q held middle new → ReachesEnd c journal reading left after old new (end_as end.Done q)
         by (Ok done) put = record {
           text = run_lines_text c w.lines;
           gets = record { lines = w.lines; run = whole_by all w.lines j.events w.ended.run; printed = refl };
@@ -142,7 +141,7 @@ module _ (c : Cluster) (journal : Journal) (reading : Reading) where
 
     -- behind a run that is cut
     unexpected_reached : (before after old middle new : Option (List ℕ)) (held : List ℕ) (t : SourceState) (was is : Bool) (j : Journal) (a : Answer) → Tells old middle held
-        → replays.IsTold Follows Stopped (along before after old middle t was is) journal.events (sight (rest_of (told_by start before)) was) (sight (rest_of (told_by t after)) is) most j (unexpected a)
+        → replays.IsRunTold Follows Stopped (along before after old middle t was is) journal.events (sight (rest_of (told_by start before)) was) (sight (rest_of (told_by t after)) is) most j (unexpected a)
         → SourceFollows start t before after → (r : Result (Unit {0}) WriteFault) → PutsLast r (run_line c (line.Unexpected t.line)) held middle new
         → reaches before after old new t was is (end_as end.Unexpected r)
     unexpected_reached None after old middle new held t was is j a tells w f r e = tt
@@ -154,7 +153,7 @@ module _ (c : Cluster) (journal : Journal) (reading : Reading) where
         text_is cut = record { lines = w.lines; given = cut.given; result = cut.result; run = cut.run; printed = refl }
 
         by : (cut : CutBy c journal reading left after t w.lines) (q : Result (Unit {0}) WriteFault) → PutsLast q (run_line c (line.Unexpected cut.result.line)) held middle new
-            → Reaches c journal reading left after old new (end_as end.Unexpected q)
+            → ReachesEnd c journal reading left after old new (end_as end.Unexpected q)
         by cut (Ok done) put = record {
           text = run_lines_text c w.lines ++ run_line c (line.Unexpected cut.result.line);
           gets = text_is cut;
@@ -174,8 +173,8 @@ module _ (c : Cluster) (journal : Journal) (reading : Reading) where
 
     -- the source failed
     broken_reached : (left : List ℕ) (after old middle new : Option (List ℕ)) (held : List ℕ) (t : SourceState) (was is : Bool) (j : Journal) → Tells old middle held → held ≡ []
-        → replays.IsTold Follows Stopped (along (Some left) after old middle t was is) journal.events (sight (rest_of (told_by start (Some left))) was) (sight (rest_of (told_by t after)) is) most j in_failure
-        → HasBroken start t (Some left) after → new ≡ middle → Reaches c journal reading left after old new end.ReadFault
+        → replays.IsRunTold Follows Stopped (along (Some left) after old middle t was is) journal.events (sight (rest_of (told_by start (Some left))) was) (sight (rest_of (told_by t after)) is) most j in_failure
+        → HasBroken start t (Some left) after → new ≡ middle → ReachesEnd c journal reading left after old new end.ReadFault
     broken_reached left after old middle new held t was is j tells none w h same = on after refl h.told
       where
         on : (o : Option (List ℕ)) → o ≡ after → Some (results_behind c journal reading left) ≡ option_map (λ rest. results_first h.given (coming_to t rest)) o
@@ -242,7 +241,7 @@ module _ (c : Cluster) (journal : Journal) (reading : Reading) where
     stops_here t w rest last stop = by t.course t.failed stop
       where
         by : (k : Course) (failed : Bool) → why_stopped k failed ≡ Some w
-            → in_course k (coming t.cluster t.lines.reading.longest t.lines.at t.lines.reading.room (raw_lines (t.lines.reading.held ++ rest))) ≡ no_more (Some w)
+            → in_course k (coming t.cluster t.lines.reading.longest t.lines.reading.room t.lines.at (raw_lines (t.lines.reading.held ++ rest))) ≡ no_more (Some w)
         by (course.Stopped v times) failed e = ap no_more e
         by course.Reading true e = absurd (no_last w last e)
         by course.Reading false e = cc
@@ -254,7 +253,7 @@ module _ (c : Cluster) (journal : Journal) (reading : Reading) where
         → results_behind c journal reading left ≡ record { results = given; stop = Some w } → (results_behind c journal reading left).stop ≡ Some w
         → AsksForMore c journal (results_behind c journal reading left) printed → (lines : List (List (List ℕ))) → IsFront lines (raw_lines (reading.held ++ left))
         → said_by c start.lines lines ≡ record { results = given; stop = Some w } → NoneOrLastSays c start.lines lines → (bytes : List ℕ) → Some left ≡ option_map (λ (x : List ℕ). bytes ++ x) after
-        → AreNear start.lines lines bytes → (how : LiveEnd) → EndsLines held (Some w) how middle new → is_last w ≡ true → Reaches c journal reading left after old new how
+        → AreNear start.lines lines bytes → (how : LiveEnd) → EndsLines held (Some w) how middle new → is_last w ≡ true → ReachesEnd c journal reading left after old new how
     stopped_by left after old middle new held printed added given (why.Refused n cause) all stop more lines first said ends bytes taken near end.Refused put last = record {
       text = run_lines_text c printed ++ line_refusal_text n cause;
       gets = record { lines = printed; line = n; cause = cause; stop = stop; run = more; printed = refl };
@@ -282,12 +281,12 @@ module _ (c : Cluster) (journal : Journal) (reading : Reading) where
           call = of_held_back (record {
             printed = printed;
             at = more.run.last;
-            asked = coming;
+            asked_for = coming;
             behind = [];
             split = sym (append-nil coming.results);
             run = subst (λ (z : Option LineStop). Runs c journal.promotions (is_none z) (due 1 journal.events) (Some (answers_to_come coming)) printed more.run.last (Some [])) (sym stop)
                 more.run.steps;
-            waits = inl (asks_still c journal.promotions false (is_none coming.stop) more.run.last more.run.asking);
+            waits = inl more.run.asking;
             one_more = inr (refl, stop);
           });
           read = inl (record { lines = lines; first = first; said = said ∙ sym all; ends = ends; bytes = bytes; taken = taken; near = near });
@@ -302,12 +301,12 @@ module _ (c : Cluster) (journal : Journal) (reading : Reading) where
     stopped_by left after old middle new held printed added given why.TooLarge all stop more lines first said ends bytes taken near how put last = absurd put
 
     stopped_reached : (left : List ℕ) (after old middle new : Option (List ℕ)) (held : List ℕ) (t : SourceState) (was is : Bool) (j : Journal) → Tells old middle held
-        → replays.IsTold Follows Stopped (along (Some left) after old middle t was is) journal.events (sight (rest_of (told_by start (Some left))) was) (sight (rest_of (told_by t after)) is) most j in_failure
-        → HasStopped start t (Some left) after → (how : LiveEnd) → EndsLines held (stop_of t) how middle new → Reaches c journal reading left after old new how
+        → replays.IsRunTold Follows Stopped (along (Some left) after old middle t was is) journal.events (sight (rest_of (told_by start (Some left))) was) (sight (rest_of (told_by t after)) is) most j in_failure
+        → HasStopped start t (Some left) after → (how : LiveEnd) → EndsLines held (stop_of t) how middle new → ReachesEnd c journal reading left after old new how
     stopped_reached left after old middle new held t was is j tells w h how e = on after refl h.told
       where
         on : (o : Option (List ℕ)) → o ≡ after → Some (results_behind c journal reading left) ≡ option_map (λ (rest : List ℕ). record { results = h.given; stop = Some h.why }) o
-            → Reaches c journal reading left after old new how
+            → ReachesEnd c journal reading left after old new how
         on None o f = cc
         on (Some rest) o f =
             let all : results_behind c journal reading left ≡ record { results = h.given; stop = Some h.why }
@@ -326,13 +325,13 @@ module _ (c : Cluster) (journal : Journal) (reading : Reading) where
             (subst (λ (z : Option LineStop). EndsLines held z how middle new) h.stop e) h.last
 
     failed_reached : (before after old middle new : Option (List ℕ)) (held : List ℕ) (t : SourceState) (was is : Bool) (j : Journal) → Tells old middle held → (stop_of t ≡ Some why.ReadFault → held ≡ [])
-        → replays.IsTold Follows Stopped (along before after old middle t was is) journal.events (sight (rest_of (told_by start before)) was) (sight (rest_of (told_by t after)) is) most j in_failure
+        → replays.IsRunTold Follows Stopped (along before after old middle t was is) journal.events (sight (rest_of (told_by start before)) was) (sight (rest_of (told_by t after)) is) most j in_failure
         → HasBroken start t before after ⊎ HasStopped start t before after → (how : LiveEnd) → EndsLines held (stop_of t) how middle new → reaches before after old new t was is how
     failed_reached None after old middle new held t was is j tells quiet w f how e = tt
     failed_reached (Some left) after old middle new held t was is j tells quiet w (inl h) how e =
         by how (subst (λ (z : Option LineStop). EndsLines held z how middle new) h.why e)
       where
-        by : (k : LiveEnd) → EndsLines held (Some why.ReadFault) k middle new → Reaches c journal reading left after old new k
+        by : (k : LiveEnd) → EndsLines held (Some why.ReadFault) k middle new → ReachesEnd c journal reading left after old new k
         by end.ReadFault same = broken_reached left after old middle new held t was is j tells (quiet h.why) w h same
         by how put = absurd put
     failed_reached (Some left) after old middle new held t was is j tells quiet w (inr h) how e = stopped_reached left after old middle new held t was is j tells w h how e
@@ -388,7 +387,7 @@ module _ (c : Cluster) (journal : Journal) (reading : Reading) where
     between_reached None after old middle new held t was is tells w f r e few = tt
     between_reached (Some left) after old middle new held t was is tells w f r e few = by r e
       where
-        by : (q : Result (Unit {0}) WriteFault) → Puts q held middle new → Reaches c journal reading left after old new (end_as end.NoMemory q)
+        by : (q : Result (Unit {0}) WriteFault) → Puts q held middle new → ReachesEnd c journal reading left after old new (end_as end.NoMemory q)
         by (Ok done) put =
             let added = all_left (run_lines_text c w.lines) held old middle new (tells w.lines w.told) put in
             record {
@@ -411,7 +410,7 @@ module _ (c : Cluster) (journal : Journal) (reading : Reading) where
 
 -- there is no memory for the first line: nothing was written
 pub nothing_reached : (c : Cluster) (journal : Journal) (reading : Reading) (before after text : Option (List ℕ))
-    → IfSome before (λ left. Reaches c journal reading left after text text end.NoMemory)
+    → IfSome before (λ left. ReachesEnd c journal reading left after text text end.NoMemory)
 nothing_reached c journal reading None after text = tt
 nothing_reached c journal reading (Some left) after text =
     let coming = results_behind c journal reading left in
@@ -432,7 +431,7 @@ nothing_reached c journal reading (Some left) after text =
 
 -- which end a run gets, where no count rose and memory sufficed
 module _ (c : Cluster) (journal : Journal) (reading : Reading) (after old new : Option (List ℕ)) (Read Wrote : Type 0) where
-  pub complete_by : (before : Option (List ℕ)) (how : LiveEnd) → IfSome before (λ left. Reaches c journal reading left after old new how) → (how ≡ end.ReadFault → Read) → (how ≡ end.WriteFault → Wrote)
+  pub complete_by : (before : Option (List ℕ)) (how : LiveEnd) → IfSome before (λ left. ReachesEnd c journal reading left after old new how) → (how ≡ end.ReadFault → Read) → (how ≡ end.WriteFault → Wrote)
       → IfSome before (λ left. ¬ Read → ¬ Wrote → how ≢ end.NoMemory → (this : LiveEnd) → (how ≡ this) ↔ IsDueEnd c journal (results_behind c journal reading left) this)
   complete_by None how r a b = tt
   complete_by (Some left) how r a b = λ no_read no_write memory this. by how r a b no_read no_write memory this
@@ -443,7 +442,7 @@ module _ (c : Cluster) (journal : Journal) (reading : Reading) (after old new : 
         λ d. (one_end c journal (results_behind c journal reading left) k this text d.text gets d.gets).0,
       )
 
-      by : (k : LiveEnd) → Reaches c journal reading left after old new k → (k ≡ end.ReadFault → Read) → (k ≡ end.WriteFault → Wrote) → ¬ Read → ¬ Wrote → k ≢ end.NoMemory
+      by : (k : LiveEnd) → ReachesEnd c journal reading left after old new k → (k ≡ end.ReadFault → Read) → (k ≡ end.WriteFault → Wrote) → ¬ Read → ¬ Wrote → k ≢ end.NoMemory
           → (this : LiveEnd) → (k ≡ this) ↔ IsDueEnd c journal (results_behind c journal reading left) this
       by end.Done r a b no_read no_write memory this = written end.Done this r.text r.gets
       by end.Unexpected r a b no_read no_write memory this = written end.Unexpected this r.text r.gets
@@ -465,30 +464,30 @@ module _ (c : Cluster) (journal : Journal) (reading : Reading) (s t : SourceStat
   tells_so : TellsBy → (lines : List RunLine) → Follows lines → GoesOut (run_lines_text c lines) [] held old middle
   tells_so tells lines told = subst (λ (x : Cluster). GoesOut (run_lines_text x lines) [] held old middle) names (tells lines told)
 
-  pub done_from : TellsBy → replays.IsTold Follows Stopped from journal.events (sight (rest_of (told_by s before)) was) (sight (rest_of (told_by t after)) is) most j with_all → SourceFollows s t before after
-      → (r : Result (Unit {0}) WriteFault) → Puts r held middle new → length held ≤ most_held → IfSome before (λ left. Reaches c journal reading left after old new (end_as end.Done r))
+  pub done_from : TellsBy → replays.IsRunTold Follows Stopped from journal.events (sight (rest_of (told_by s before)) was) (sight (rest_of (told_by t after)) is) most j with_all → SourceFollows s t before after
+      → (r : Result (Unit {0}) WriteFault) → Puts r held middle new → length held ≤ most_held → IfSome before (λ left. ReachesEnd c journal reading left after old new (end_as end.Done r))
   done_from tells w f r e few = done_reached c journal reading Follows Stopped most before after old middle new held t was is j (tells_so tells) (rw fresh at w) (rw fresh at f) r e few
 
-  pub unexpected_from : (a : Answer) → TellsBy → replays.IsTold Follows Stopped from journal.events (sight (rest_of (told_by s before)) was) (sight (rest_of (told_by t after)) is) most j (unexpected a) → SourceFollows s t before after
-      → (r : Result (Unit {0}) WriteFault) → PutsLast r (run_line d (line.Unexpected t.line)) held middle new → IfSome before (λ left. Reaches c journal reading left after old new (end_as end.Unexpected r))
+  pub unexpected_from : (a : Answer) → TellsBy → replays.IsRunTold Follows Stopped from journal.events (sight (rest_of (told_by s before)) was) (sight (rest_of (told_by t after)) is) most j (unexpected a) → SourceFollows s t before after
+      → (r : Result (Unit {0}) WriteFault) → PutsLast r (run_line d (line.Unexpected t.line)) held middle new → IfSome before (λ left. ReachesEnd c journal reading left after old new (end_as end.Unexpected r))
   unexpected_from a tells w f r e =
       unexpected_reached c journal reading Follows Stopped most before after old middle new held t was is j a (tells_so tells) (rw fresh at w) (rw fresh at f) r
       (subst (λ (x : Cluster). PutsLast r (run_line x (line.Unexpected t.line)) held middle new) names e)
 
-  pub failed_from : TellsBy → (stop_of t ≡ Some why.ReadFault → held ≡ []) → replays.IsTold Follows Stopped from journal.events (sight (rest_of (told_by s before)) was) (sight (rest_of (told_by t after)) is) most j in_failure
-      → HasBroken s t before after ⊎ HasStopped s t before after → (how : LiveEnd) → EndsLines held (stop_of t) how middle new → IfSome before (λ left. Reaches c journal reading left after old new how)
+  pub failed_from : TellsBy → (stop_of t ≡ Some why.ReadFault → held ≡ []) → replays.IsRunTold Follows Stopped from journal.events (sight (rest_of (told_by s before)) was) (sight (rest_of (told_by t after)) is) most j in_failure
+      → HasBroken s t before after ⊎ HasStopped s t before after → (how : LiveEnd) → EndsLines held (stop_of t) how middle new → IfSome before (λ left. ReachesEnd c journal reading left after old new how)
   failed_from tells quiet w f how e = failed_reached c journal reading Follows Stopped most before after old middle new held t was is j (tells_so tells) quiet (rw fresh at w) (rw fresh at f) how e
 
   pub cut_off_from : ((lines : List RunLine) (at : Option RunLine) → Stopped lines at → WritesInPart (run_lines_text d lines) (last_text d at) old new)
       → replays.IsStopped Follows Stopped from journal.events (sight (rest_of (told_by s before)) was) (sight (rest_of (told_by t after)) is) most j
       ⊎ replays.IsStoppedAsking Follows Stopped from journal.events (sight (rest_of (told_by s before)) was) (sight (rest_of (told_by t after)) is) most j → SourceFollows s t before after
-      → IfSome before (λ left. Reaches c journal reading left after old new end.WriteFault)
+      → IfSome before (λ left. ReachesEnd c journal reading left after old new end.WriteFault)
   cut_off_from stops w f =
       cut_off_reached c journal reading Follows Stopped most before after old new t was is j
       (λ lines at told. subst (λ (x : Cluster). WritesInPart (run_lines_text x lines) (last_text x at) old new) names (stops lines at told)) (rw fresh at w) (rw fresh at f)
 
   pub between_from : TellsBy → replays.IsBetweenTwo Follows Stopped from journal.events (sight (rest_of (told_by s before)) was) (sight (rest_of (told_by t after)) is) most → SourceFollows s t before after
-      → (r : Result (Unit {0}) WriteFault) → Puts r held middle new → length held ≤ most_held → IfSome before (λ left. Reaches c journal reading left after old new (end_as end.NoMemory r))
+      → (r : Result (Unit {0}) WriteFault) → Puts r held middle new → length held ≤ most_held → IfSome before (λ left. ReachesEnd c journal reading left after old new (end_as end.NoMemory r))
   between_from tells w f r e few = between_reached c journal reading Follows Stopped most before after old middle new held t was is (tells_so tells) (rw fresh at w) (rw fresh at f) r e few
 
 pub failed_kind : (exact : Bool) (v u : SourceView) → HasQuestionFailed exact v u → HasBroken v.state u.state v.left u.left ⊎ HasStopped v.state u.state v.left u.left

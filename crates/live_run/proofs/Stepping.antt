@@ -15,7 +15,7 @@ use Rattle.live_run.specs.Inner.ComingSteps.{said_came}
 use Rattle.live_run.specs.SourceFollowed.{AreNear, LastLineSays, HasRead, IsStoppedBy, StandWhole, bytes_of, count_said, results_first, said_by}
 use Rattle.run_safety.specs.TwoRuns.{IsFront}
 use Rattle.live_run.specs.Inner.ReadSteps.{ReadUntil}
-use Rattle.live_run.specs.LineSays.{line_says, place_behind_said, line_says_within, sized_says}
+use Rattle.live_run.specs.LineSays.{due_line_says, place_behind_said, line_says_within, sized_says}
 use Rattle.live_run.specs.declared.result_reader.Came.TheVariants as came
 use Rattle.live_run.specs.declared.line_stop.LineCause.TheVariants as cause
 use Rattle.live_run.specs.declared.line_stop.LineStop.{LineStop}
@@ -25,6 +25,7 @@ use Rattle.live_run.specs.declared.line_saying.Said.{Said}
 use Rattle.live_run.specs.declared.line_saying.Said.TheVariants as said
 use Rattle.live_run.proofs.Bringing.{handed_answer, handed_cut, line_first, lines_at, longest_is, room_is, some_if}
 use Rattle.live_run.proofs.Cuts.{cut_of}
+use Rattle.live_run.proofs.Standing.{first_stands}
 use Rattle.live_run.proofs.Unfinished.{longer}
 use Rattle.input_reading.specs.declared.results.result_lines.ResultLine.{ResultLine}
 
@@ -49,11 +50,16 @@ handed_parts old new before after a = a.leaves.parts ∙ ap (λ (t : List ℕ). 
 
 -- before the end of the source it has its line end
 pub line_stands : (old new : Reading) (before after : Option (List ℕ)) (a : ReaderAnswered Line old new before after) → a.ended ≡ false
-    → StandWhole (physical_lines new.raw ∷ []) new.held
+    → StandWhole (physical_lines new.raw ∷ [])
 line_stands old new before after a unended rest =
-    ap raw_lines (sym (append_assoc (bytes_of (physical_lines new.raw ∷ [])) new.held rest)
-    ∙ ap (λ (t : List ℕ). t ++ rest) (sym (handed_parts old new before after a)))
-    ∙ (handed_cut old new before after a rest (λ ended. (let none : ⊥ = cc in absurd none))).lines
+    let feed : List ℕ = 10 ∷ [] in
+    let text : (old.held ++ a.bytes) ++ feed ≡ new.raw ++ (new.held ++ feed)
+    = ap (λ (t : List ℕ). t ++ feed) a.leaves.parts ∙ append_assoc new.raw new.held feed in
+    let first : first_line (new.raw ++ (new.held ++ feed)) ≡ physical_lines new.raw
+    = ap first_line (sym text) ∙ a.leaves.first feed (λ ended. (let none : ⊥ = cc in absurd none)) in
+    let size = length-append new.held feed in
+    ap (λ (t : List ℕ). raw_lines (t ++ rest)) (bytes_one new.raw)
+    ∙ first_stands new.raw (new.held ++ feed) (omega (arith, size)) first rest
 
 -- a line is handed out, which is the first of those to come
 pub line_cut : (old new : Reading) (before after : Option (List ℕ)) (a : ReaderAnswered Line old new before after)
@@ -86,16 +92,16 @@ module _ (c : Cluster) (at : Place) (old new : Reading) (before after : Option (
       inr (omega (arith, size, both, short))
 
   -- what the line says, and then the others
-  says_first : (s : Said) → line_says c at new.raw ≡ s → (others : List (List (List ℕ))) → said_by c (lines_at at old) (lines ++ others) ≡ said_first at s (said_by c (behind s) others)
+  says_first : (s : Said) → due_line_says c at new.raw ≡ s → (others : List (List (List ℕ))) → said_by c (lines_at at old) (lines ++ others) ≡ said_first at s (said_by c (behind s) others)
   says_first s is others =
-      line_first c old.longest at old.room new.raw others (handed_answer old new before after a [] (λ ended. refl))
-      ∙ (ap (λ (r : ℕ). said_first at (line_says c at new.raw)
-      (coming c old.longest (place_behind_said at (line_says c at new.raw) (length (physical_lines new.raw))) r others)) (sym (room_is old new before after a))
-      ∙ (ap (λ (n : ℕ). said_first at (line_says c at new.raw)
-      (coming c n (place_behind_said at (line_says c at new.raw) (length (physical_lines new.raw))) new.room others)) (sym (longest_is old new before after a))
+      line_first c old.longest old.room at new.raw others (handed_answer old new before after a [] (λ ended. refl))
+      ∙ (ap (λ (r : ℕ). said_first at (due_line_says c at new.raw)
+      (coming c old.longest r (place_behind_said at (due_line_says c at new.raw) (length (physical_lines new.raw))) others)) (sym (room_is old new before after a))
+      ∙ (ap (λ (n : ℕ). said_first at (due_line_says c at new.raw)
+      (coming c n new.room (place_behind_said at (due_line_says c at new.raw) (length (physical_lines new.raw))) others)) (sym (longest_is old new before after a))
       ∙ ap (λ (t : Said). said_first at t (said_by c (behind t) others)) is))
 
-  line_read : (s : Said) (given : List ResultLine) → line_says c at new.raw ≡ s → ((others : Coming) → said_first at s others ≡ results_first given others)
+  line_read : (s : Said) (given : List ResultLine) → due_line_says c at new.raw ≡ s → ((others : Coming) → said_first at s others ≡ results_first given others)
       → HasRead c (lines_at at old) (behind s) before after lines given a.bytes
   line_read s given is gives = record {
     taken = a.taken;
@@ -113,12 +119,12 @@ module _ (c : Cluster) (at : Place) (old new : Reading) (before after : Option (
     same_size = longest_is old new before after a;
   }
 
-  line_last : (s : Said) (whole : Coming) → line_says c at new.raw ≡ s → said_first at s (said_by c (behind s) []) ≡ whole → 0 < count_said whole → LastLineSays c (lines_at at old) lines
+  line_last : (s : Said) (whole : Coming) → due_line_says c at new.raw ≡ s → said_first at s (said_by c (behind s) []) ≡ whole → 0 < count_said whole → LastLineSays c (lines_at at old) lines
   line_last s whole is line_says_within some =
       let counted = ap count_said (says_first s is [] ∙ line_says_within) in
       record { front = []; last = physical_lines new.raw; joined = refl; fewer = omega (arith, counted, some) }
 
-  by_said : (s : Said) → line_says c at new.raw ≡ s → ReadUntil c (said_came at.line s) (lines_at at old) (behind s) before after
+  by_said : (s : Said) → due_line_says c at new.raw ≡ s → ReadUntil c (said_came at.line s) (lines_at at old) (behind s) before after
   by_said said.Nothing is = record { lines = lines; bytes = a.bytes; read = line_read said.Nothing [] is (λ others. refl); near = line_near }
   by_said (said.Answer given) is = record {
     lines = lines;
@@ -146,8 +152,8 @@ module _ (c : Cluster) (at : Place) (old new : Reading) (before after : Option (
           by None f = cc
           by (Some left) f = record { more = raw_lines (new.held ++ left); joined = cc }
 
-  pub line_until : ReadUntil c (said_came at.line (line_says c at new.raw)) (lines_at at old) (behind (line_says c at new.raw)) before after
-  line_until = by_said (line_says c at new.raw) refl
+  pub line_until : ReadUntil c (said_came at.line (due_line_says c at new.raw)) (lines_at at old) (behind (due_line_says c at new.raw)) before after
+  line_until = by_said (due_line_says c at new.raw) refl
 
 -- no line is handed out
 pub unmoved : (step : LineStep) (old new : Reading) (before after : Option (List ℕ)) (a : ReaderAnswered step old new before after) → (step ≡ Line → ⊥)
@@ -193,7 +199,7 @@ unmoved_read c at old new before after bytes taken held room longest was = recor
   parts = sym held;
   cut = unmoved_cut old new before after bytes taken held;
   whole = λ unended. (was unended, λ rest. refl);
-  answered = λ others. ap (λ (r : ℕ). coming c old.longest at r others) (sym room) ∙ ap (λ (n : ℕ). coming c n at new.room others) (sym longest);
+  answered = λ others. ap (λ (r : ℕ). coming c old.longest r at others) (sym room) ∙ ap (λ (n : ℕ). coming c n new.room at others) (sym longest);
   room = omega (arith, room);
   same_size = longest;
 }
@@ -251,10 +257,10 @@ module _ (c : Cluster) (at : Place) (old new : Reading) (before after : Option (
       let k = cut_of text some in
       let answer : line_answer old.room old.longest (physical_lines k.raw) ≡ step
       = sym (exact ∙ (answer_some old.room old.longest text some ∙ ap (λ ls. line_answer old.room old.longest (first_line_of ls)) k.lines)) in
-      let says_is : line_says_within c old.longest at old.room (physical_lines k.raw) ≡ said.Stop w
+      let says_is : line_says_within c old.longest old.room at (physical_lines k.raw) ≡ said.Stop w
       = ap (λ s. sized_says c at s (physical_lines k.raw)) answer ∙ sized (physical_lines k.raw) in
       let whole : said_by c (lines_at at old) (physical_lines k.raw ∷ []) ≡ no_more (Some w)
-      = ap (λ s. said_first at s (coming c old.longest (place_behind_said at s (length (physical_lines k.raw))) (old.room - length (concat (physical_lines k.raw))) [])) says_is in
+      = ap (λ s. said_first at s (coming c old.longest (old.room - length (concat (physical_lines k.raw))) (place_behind_said at s (length (physical_lines k.raw))) [])) says_is in
       let counted = ap count_said whole in
       let first : first_line text ≡ physical_lines k.raw = ap first_line_of k.lines in
       record {

@@ -1,9 +1,9 @@
--- The first logical line of a text goes on past bytes that hold no whole one.
+-- The first logical line of a text goes on past bytes that hold no whole one, and a whole one stays the first.
 use Rattle.std.proofs.Common.{◌≡◌, ℕ, ◌+◌, ◌<◌, ◌==◌, ◌||◌, Bool, true, false, List, [], ◌∷◌, ◌++◌, length, length-append, refl, ap, sym, ◌∙◌, arith}
 use Rattle.std.specs.List.{concat, AllByRecursion}
-use Rattle.std.proofs.lemmas.Bool.{cond-true, cond-false, or_parts}
+use Rattle.std.proofs.lemmas.Bool.{cond-true, cond-false, cond_both, or_parts}
 use Rattle.cluster_io.specs.NextLine.{first_line_of, first_line, has_feed, holds_line, is_whole}
-use Rattle.cluster_io.proofs.PhysicalLines.{first_of-onto_group}
+use Rattle.cluster_io.proofs.PhysicalLines.{first_ends, first_of-onto_group}
 use Rattle.crm_lex.specs.RawLines.{goes_on, joined, onto_first, onto_group, physical_lines}
 
 -- a line without a line feed, if there is one
@@ -172,3 +172,35 @@ longer text rest unended some =
     let size = ap (λ (t : List (List ℕ)). length (concat (first_line_of (joined false t)))) lines in
     let all = s.size in
     omega (arith, size, all, past)
+
+-- a whole line is the first one, whatever follows
+stays_first : (continues : Bool) (front : List (List ℕ)) (back behind : List ℕ) → has_feed back ≡ false → is_whole continues (front ++ open_line back) ≡ true
+    → first_line_of (joined continues (front ++ physical_lines (back ++ behind))) ≡ first_line_of (joined continues (front ++ open_line back))
+stays_first continues [] [] behind none whole = cc
+stays_first continues [] (b ∷ back) behind none whole =
+    let open_yet : is_whole continues ((b ∷ back) ∷ []) ≡ false
+    = cond_both (goes_on continues (b ∷ back)) false (has_feed (b ∷ back)) (λ (t : Bool). t ≡ false) (λ _. refl) (λ _. none) in
+    absurd (let f : ⊥ = cc in f)
+stays_first continues (l ∷ front) back behind none whole = by (stays_first true front back behind none) (goes_on continues l) refl
+  where
+    by : (is_whole true (front ++ open_line back) ≡ true
+        → first_line_of (joined true (front ++ physical_lines (back ++ behind))) ≡ first_line_of (joined true (front ++ open_line back)))
+        → (t : Bool) → goes_on continues l ≡ t
+        → first_line_of (joined continues (l ∷ (front ++ physical_lines (back ++ behind)))) ≡ first_line_of (joined continues (l ∷ (front ++ open_line back)))
+    by later true e =
+        let more = later (sym (cond-true (goes_on continues l) (is_whole true (front ++ open_line back)) (has_feed l) e) ∙ whole) in
+        first_goes (front ++ physical_lines (back ++ behind)) e
+        ∙ (ap (λ (t : List (List ℕ)). l ∷ t) more ∙ sym (first_goes (front ++ open_line back) e))
+      where
+        first_goes : (lines : List (List ℕ)) → goes_on continues l ≡ true → first_line_of (joined continues (l ∷ lines)) ≡ l ∷ first_line_of (joined true lines)
+        first_goes lines e =
+            ap first_line_of (cond-true (goes_on continues l) (onto_group l (joined true lines)) ((l ∷ []) ∷ joined false lines) e)
+            ∙ first_of-onto_group l (joined true lines)
+    by later false e = first_ends continues l (front ++ physical_lines (back ++ behind)) e ∙ sym (first_ends continues l (front ++ open_line back) e)
+
+pub whole_first : (text behind : List ℕ) → holds_line text ≡ true → first_line (text ++ behind) ≡ first_line text
+whole_first text behind whole =
+    let s = split text in
+    ap (λ (t : List (List ℕ)). first_line_of (joined false t)) (s.more behind)
+    ∙ (stays_first false s.front s.back behind s.none (ap (is_whole false) (sym s.lines) ∙ whole)
+    ∙ ap (λ (t : List (List ℕ)). first_line_of (joined false t)) (sym s.lines))

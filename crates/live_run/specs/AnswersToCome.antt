@@ -29,22 +29,23 @@ said_first at said.Nothing others = others
 said_first at (said.Answer given) others = result_first (record { line = at.line; answer = given }) others
 said_first at (said.Stop why) others = no_more (Some why)
 
--- what is to come of some logical lines, each of which is given by its physical lines. A line may have so many bytes without line ends; the first stands at
--- this place; and so many of the bytes to come lie within the limit
-abbrev pub coming : Cluster → ℕ → Place → ℕ → List (List (List ℕ)) → Coming
-coming c longest at room [] = no_more None
-coming c longest at room (lines ∷ more) =
-    said_first at (line_says_within c longest at room lines)
-    (coming c longest (place_behind_said at (line_says_within c longest at room lines) (length lines)) (room - length (concat lines)) more)
+-- what is to come of some logical lines, each of which is given by its physical lines. A line may have so many bytes without line ends; so many of
+-- the bytes to come lie within the limit; and the first line stands at this place. Each line has the room, and stands at the place, that the lines before it
+-- leave: these are what is left of the room without their bytes, and `place_behind_lines` (`lines_stand_behind_those_before`)
+abbrev pub coming : Cluster → (longest room : ℕ) → Place → List (List (List ℕ)) → Coming
+coming c longest room at [] = no_more None
+coming c longest room at (lines ∷ more) =
+    said_first at (line_says_within c longest room at lines)
+    (coming c longest (room - length (concat lines)) (place_behind_said at (line_says_within c longest room at lines) (length lines)) more)
 
--- lines that are read: the place of the next, and what their reader holds
+-- lines that are read: the place of the next, and what their reader holds. The number of the next line stands in both (see `AreReady`)
 pub record LineReaderAt : Type 0 where
   pub at : Place
   pub reading : Reading
 
 -- what is to come of all bytes to come: those that the reader holds, and those that its source has left
 abbrev pub coming_of : Cluster → LineReaderAt → List ℕ → Coming
-coming_of c lines left = coming c lines.reading.longest lines.at lines.reading.room (raw_lines (lines.reading.held ++ left))
+coming_of c lines left = coming c lines.reading.longest lines.reading.room lines.at (raw_lines (lines.reading.held ++ left))
 
 -- the numbers of some lines have their ranges: seconds below 2^40, at most 10,000 result lines, and numbers of lines below 2^32. The place and the reader
 -- agree on the number of the next line

@@ -14,13 +14,17 @@ use Rattle.live_run.specs.declared.course.Course.TheVariants as course
 use Rattle.live_run.specs.declared.line_stop.LineStop.{LineStop}
 use Rattle.live_run.specs.declared.line_stop.LineStop.TheVariants.{ReadFault}
 
--- the cluster by whose names the lines are read, the lines to come, whether the source goes on, the line of its last answer, and whether its source of
--- bytes has failed
+-- where a source of answers stands
 pub record SourceState : Type 0 where
+  -- by its names of nodes and leaves the lines are read
   pub cluster : Cluster
+  -- the place of the next line, and the bytes that are held
   pub lines : LineReaderAt
+  -- whether it goes on: it reads, its input has ended, or a line has stopped it, with the reason and how often that was said
   pub course : Course
+  -- the number of the line of its last answer; 0 before the first
   pub line : ℕ
+  -- its source of bytes has failed
   pub failed : Bool
 
 -- no answer was given yet, and the next line is taken at a moment

@@ -38,21 +38,22 @@ pub data LineOfHead : Type 0 where
   has_bad_words : (line : ℕ) (why : LexCause) → LineOfHead
   passes_limit : LineOfHead
 
--- what a line says, by its words. It is cut without memory, so that the last case never comes
+-- what a line says, by its words. It is cut without memory, so that `NoMemory` never comes; its row only makes the table whole
 abbrev pub line_by_words : Result (List (List ℕ)) (Fault LexCause) → LineOfHead
 line_by_words (Ok words) = if begins_results words then ends_head else goes_on_behind
 line_by_words (Err (At line why)) = has_bad_words line why
 line_by_words (Err NoMemory) = passes_limit
 
--- by its size, the number of its first physical line and its bytes
+-- by its size, the number of its first physical line and its bytes. The last row is for `TooLarge`: of a line `line_answer` never gives `End` or `Failed`
 abbrev pub line_by_size : LineStep → ℕ → List ℕ → LineOfHead
 line_by_size step.Line n raw = line_by_words (reads_line n raw)
 line_by_size step.TooLong n raw = has_bad_words n LineTooLong
 line_by_size _ n raw = passes_limit
 
--- by its physical lines, of which the first has this number. So many bytes of them lie within the limit, and a line may have so many without line ends
-abbrev pub line_of_head : ℕ → ℕ → ℕ → List (List ℕ) → LineOfHead
-line_of_head room longest n lines = line_by_size (line_answer room longest lines) n (concat lines)
+-- by its physical lines. A line may have so many bytes without line ends, so many of the bytes to come lie within the limit, and the first physical line has
+-- this number
+abbrev pub line_of_head : (longest room n : ℕ) → List (List ℕ) → LineOfHead
+line_of_head longest room n lines = line_by_size (line_answer room longest lines) n (concat lines)
 
 -- what is found, by what a line says: the head that ends with the line, or what is found behind the line
 abbrev pub found_by : LineOfHead → HeadFound → HeadFound → HeadFound
@@ -62,21 +63,39 @@ found_by (has_bad_words line why) with_it behind = refused line (Words why)
 found_by passes_limit with_it behind = too_large
 
 -- the head of a text and some logical lines behind it, line by line: up to the first behind which it doesn't go on
-abbrev pub head_found : ℕ → List ℕ → ℕ → ℕ → List (List (List ℕ)) → HeadFound
-head_found longest before room n [] = taken before n room
-head_found longest before room n (lines ∷ more) =
-    found_by (line_of_head room longest n lines) (taken (before ++ concat lines) (n + length lines) (room - length (concat lines)))
-    (head_found longest (before ++ concat lines) (room - length (concat lines)) (n + length lines) more)
+abbrev pub head_found : (longest room n : ℕ) → List ℕ → List (List (List ℕ)) → HeadFound
+head_found longest room n before [] = taken before n room
+head_found longest room n before (lines ∷ more) =
+    found_by (line_of_head longest room n lines) (taken (before ++ concat lines) (n + length lines) (room - length (concat lines)))
+    (head_found longest (room - length (concat lines)) (n + length lines) (before ++ concat lines) more)
 
--- behind each of these lines the head goes on
-abbrev pub AllGoOnBehind : ℕ → ℕ → ℕ → List (List (List ℕ)) → Type 0
-AllGoOnBehind room longest n [] = Unit {0}
-AllGoOnBehind room longest n (lines ∷ more) =
-    (line_of_head room longest n lines ≡ goes_on_behind) × AllGoOnBehind (room - length (concat lines)) longest (n + length lines) more
+-- the head that these logical lines are: their bytes, the number of the line behind them, and how many of the bytes behind them lie within the limit
+abbrev pub head_of_lines : (room n : ℕ) → List (List (List ℕ)) → HeadFound
+head_of_lines room n lines = taken (bytes_of lines) (n + count_lines lines) (room - length (bytes_of lines))
+
+-- what a line says of the head that stands behind these: they leave its room and its number
+abbrev pub head_line_behind : (longest room n : ℕ) → List (List (List ℕ)) → List (List ℕ) → LineOfHead
+head_line_behind longest room n before lines = line_of_head longest (room - length (bytes_of before)) (n + count_lines before) lines
+
+-- behind each of these logical lines the head goes on, by the room and the number that those before it leave
+abbrev pub AllGoOnBehind : (longest room n : ℕ) → List (List (List ℕ)) → Type 0
+AllGoOnBehind longest room n all = (before after : List (List (List ℕ))) (lines : List (List ℕ)) → all ≡ before ++ lines ∷ after
+    → head_line_behind longest room n before lines ≡ goes_on_behind
+
+-- the head of some logical lines, without steps: it goes on behind each of them, and they all are the head; or it goes on behind some of them, and at the next
+-- line it ends, with that line, or that line can't be cut into words, or goes past the limit
+pub data IsHeadOfLines (longest room n : ℕ) (all : List (List (List ℕ))) : HeadFound → Type 0 where
+  all_lines : AllGoOnBehind longest room n all → IsHeadOfLines longest room n all (head_of_lines room n all)
+  up_to_results : (before after : List (List (List ℕ))) (lines : List (List ℕ)) → all ≡ before ++ lines ∷ after → AllGoOnBehind longest room n before
+      → head_line_behind longest room n before lines ≡ ends_head → IsHeadOfLines longest room n all (head_of_lines room n (before ++ lines ∷ []))
+  at_bad_words : (before after : List (List (List ℕ))) (lines : List (List ℕ)) (line : ℕ) (why : LexCause) → all ≡ before ++ lines ∷ after
+      → AllGoOnBehind longest room n before → head_line_behind longest room n before lines ≡ has_bad_words line why → IsHeadOfLines longest room n all (refused line (Words why))
+  at_limit : (before after : List (List (List ℕ))) (lines : List (List ℕ)) → all ≡ before ++ lines ∷ after → AllGoOnBehind longest room n before
+      → head_line_behind longest room n before lines ≡ passes_limit → IsHeadOfLines longest room n all too_large
 
 -- the head of a text and of all bytes to come: those that a reader holds, and those that its source has left
 abbrev pub head_behind : List ℕ → Reading → List ℕ → HeadFound
-head_behind before reading left = head_found reading.longest before reading.room reading.next (raw_lines (reading.held ++ left))
+head_behind before reading left = head_found reading.longest reading.room reading.next before (raw_lines (reading.held ++ left))
 
 -- a text and the lines of a reader behind it
 pub record ReaderSofar : Type 0 where
@@ -103,7 +122,7 @@ pub record HasTaken (old new : Reading) (text : List ℕ) (before after : Option
   pub lines : List (List (List ℕ))
   pub text_is : text ≡ bytes_of lines
   pub cut : option_map (λ left. raw_lines (old.held ++ left)) before ≡ option_map (λ left. lines ++ raw_lines (new.held ++ left)) after
-  pub whole : new.ended ≡ false → (old.ended ≡ false) × StandWhole lines new.held
+  pub whole : new.ended ≡ false → (old.ended ≡ false) × StandWhole lines
   pub number : new.next ≡ old.next + count_lines lines
   pub room : length text + new.room ≡ old.room
 
@@ -111,7 +130,7 @@ pub record HasTaken (old new : Reading) (text : List ℕ) (before after : Option
 pub record HasHeadGoneOn (old new : Reading) (text : List ℕ) (before after : Option (List ℕ)) : Type 0 where
   pub taken : HasTaken old new text before after
   pub same_size : new.longest ≡ old.longest
-  pub goes_on : IfSome after (λ left. AllGoOnBehind old.room old.longest old.next taken.lines)
+  pub goes_on : IfSome after (λ left. AllGoOnBehind old.longest old.room old.next taken.lines)
 
 -- reading stopped amid the head, before the end of the source: behind each line that was taken whole the head goes on, and this is the text of these lines. No further line was taken
 -- whole, and what is held gives no answer yet

@@ -11,7 +11,7 @@ use Rattle.live_run.specs.Ends.{run_lines_text}
 abbrev pub most_held : ℕ
 most_held = 65536
 
--- the sink failed as a last text was added behind a text: a front of both was written, and of the text at most 65,536 bytes are missing
+-- the sink failed as a last text was added behind a text: a front of both was written, or all, and of the text at most 65,536 bytes are missing
 pub record WritesInPart (text last : List ℕ) (before after : Option (List ℕ)) : Type 0 where
   pub front : AddsPrefix (text ++ last) before after
   pub few_missing : length text ≤ front.count + most_held
@@ -21,7 +21,7 @@ abbrev pub Puts : Result (Unit {0}) WriteFault → List ℕ → Option (List ℕ
 Puts (Ok done) text before after = Adds before text after
 Puts (Err fault) text before after = AddsPrefix text before after
 
--- a writer has the loan of its sink that it had
+-- a writer still writes to the sink to which it wrote
 abbrev pub IsSameSink : ℕ → ℕ → Type 0
 IsSameSink loan loan_now = loan_now ≡ loan
 
@@ -52,17 +52,22 @@ abbrev pub OffersLast : Result (Unit {0}) WriteFault → List ℕ → List ℕ �
 OffersLast (Ok done) text held before after = OffersHeld (held ++ text) before after ⊎ OffersInTurn held text before after
 OffersLast (Err fault) text held before after = (OffersHeld (held ++ text) before after ⊎ OffersInTurn held text before after) ⊎ OffersHeld held before after
 
--- what lines that were written have left of a sink's count of faults, by whether the last of them failed, and of its loan
+-- what the writing of some lines has left of a sink's count of faults, by whether the last write failed. It is the sink that it was
 pub record HasPut (exact : Bool) (failed : Type 0) (faults faults_now loan loan_now : ℕ) : Type 0 where
   pub bears : Bears exact failed faults faults_now
   pub same_sink : IsSameSink loan loan_now
 
--- a writer at a moment: by whose names it writes, what it holds back, and of its sink what is written, how often it has failed, and the name of its loan
+-- a writer at a moment
 pub record WriterView : Type 0 where
+  -- by its names of nodes and leaves it writes
   pub names : Cluster
+  -- the bytes of lines that it was told, which it hasn't handed to the sink yet
   pub held : List ℕ
+  -- what the sink holds, if that is told
   pub written : Option (List ℕ)
+  -- how often the sink has failed
   pub faults : ℕ
+  -- which sink it is: two writers with one number here write to one sink
   pub loan : ℕ
 
 -- the text of a line, if there is one

@@ -22,7 +22,7 @@ use Rattle.live_run.specs.declared.place.Place.{Place}
 use Rattle.live_run.specs.declared.line_saying.Said.{Said}
 use Rattle.live_run.specs.declared.line_saying.Said.TheVariants as said
 
--- why a line is refused. A line is read without memory, so that the second case never comes
+-- why a line is refused. A line is read without memory, so that `NoMemory` never comes; its row only makes the table whole
 abbrev pub refused_for : {C : Type 0} → (C → LineCause) → Fault C → LineStop
 refused_for cause_of (At line why) = Refused line (cause_of why)
 refused_for cause_of NoMemory = TooLarge
@@ -42,18 +42,18 @@ read_says c at (Ok words) = words_say c at words
 read_says c at (Err fault) = said.Stop (refused_for cause.Words fault)
 
 -- what the bytes of a line say
-abbrev pub line_says : Cluster → Place → List ℕ → Said
-line_says c at raw = read_says c at (reads_line at.line raw)
+abbrev pub due_line_says : Cluster → Place → List ℕ → Said
+due_line_says c at raw = read_says c at (reads_line at.line raw)
 
--- what a line of these physical lines says, by what its size is
+-- what a line of these physical lines says, by its size. The last row is for `TooLarge`: of a line `line_answer` never gives `End` or `Failed`
 abbrev pub sized_says : Cluster → Place → LineStep → List (List ℕ) → Said
-sized_says c at step.Line lines = line_says c at (concat lines)
+sized_says c at step.Line lines = due_line_says c at (concat lines)
 sized_says c at step.TooLong lines = said.Stop (Refused at.line (cause.Words LineTooLong))
 sized_says c at _ lines = said.Stop TooLarge
 
--- the same, where so many of the bytes to come lie within the limit, and a line may have so many without line ends
-abbrev pub line_says_within : Cluster → ℕ → Place → ℕ → List (List ℕ) → Said
-line_says_within c longest at room lines = sized_says c at (line_answer room longest lines) lines
+-- the same, where a line may have so many bytes without line ends, and so many of the bytes to come lie within the limit
+abbrev pub line_says_within : Cluster → (longest room : ℕ) → Place → List (List ℕ) → Said
+line_says_within c longest room at lines = sized_says c at (line_answer room longest lines) lines
 
 -- the place behind a line that says this and has so many physical lines
 abbrev pub place_behind_said : Place → Said → ℕ → Place

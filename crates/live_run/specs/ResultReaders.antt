@@ -1,4 +1,4 @@
--- What contracts see of a reader of result lines. No public clause cites this module.
+-- What contracts see of a reader of result lines. Public clauses see it through `state_of` of LineSources.
 use Rattle.std.specs.Prelude.{ℕ}
 use Rattle.cluster_io.specs.LineReaders.{loan_of, reading_of, source_of}
 use Rattle.live_run.specs.AnswersToCome.{LineReaderAt}

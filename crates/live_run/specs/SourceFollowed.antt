@@ -5,6 +5,7 @@ use Rattle.std.specs.List.{concat, flat_map}
 use Rattle.cluster_io.specs.NextLine.{holds_line, IsUndecided}
 use Rattle.cluster_io.specs.Streams.{Bears, TakesBytes}
 use Rattle.cluster_types.specs.declared.cluster.Cluster.{Cluster}
+use Rattle.cluster_types.specs.AnswersThatApply.{seconds_in}
 use Rattle.crm_lex.specs.RawLines.{raw_lines}
 use Rattle.graph_exec.specs.declared.transition.outcomes.Next.{Next}
 use Rattle.graph_exec.specs.declared.transition.outcomes.Next.TheVariants as next
@@ -16,6 +17,7 @@ use Rattle.live_run.specs.declared.course.Course.{Course}
 use Rattle.live_run.specs.declared.course.Course.TheVariants as course
 use Rattle.live_run.specs.declared.line_stop.LineStop.{LineStop}
 use Rattle.live_run.specs.declared.line_stop.LineStop.TheVariants.{ReadFault}
+use Rattle.live_run.specs.declared.place.Place.{Place}
 use Rattle.run_safety.specs.TwoRuns.{IsFront}
 
 -- the bytes of some logical lines, each of which is given by its physical lines
@@ -28,7 +30,15 @@ count_lines lines = sum_by (λ (line : List (List ℕ)). length line) lines
 
 -- what some logical lines say, read from a place on
 abbrev pub said_by : Cluster → LineReaderAt → List (List (List ℕ)) → Coming
-said_by c from lines = coming c from.reading.longest from.at from.reading.room lines
+said_by c from lines = coming c from.reading.longest from.reading.room from.at lines
+
+-- the place behind logical lines that give these answers: later by the waits among them, with so many answers more before it, and so many physical lines on
+abbrev pub place_behind_lines : Place → List ResultLine → List (List (List ℕ)) → Place
+place_behind_lines at given lines = record {
+  moment = at.moment + sum_by (λ (result : ResultLine). seconds_in result.answer) given;
+  before = at.before + length given;
+  line = at.line + count_lines lines;
+}
 
 -- some answers with their lines, and then what is to come behind them
 abbrev pub results_first : List ResultLine → Coming → Coming
@@ -43,9 +53,10 @@ last_line line (result ∷ results) = last_line result.line results
 abbrev pub count_said : Coming → ℕ
 count_said coming = length coming.results + (if is_some coming.stop then 1 else 0)
 
--- each of these logical lines has its line end, which is among its own bytes: they are whole, whatever comes behind the bytes that are held
-abbrev pub StandWhole : List (List (List ℕ)) → List ℕ → Type 0
-StandWhole lines held = (rest : List ℕ) → raw_lines (bytes_of lines ++ (held ++ rest)) ≡ lines ++ raw_lines (held ++ rest)
+-- these logical lines stand by themselves: whatever is appended behind their bytes, the text is cut into these lines, and then into those of the rest. So
+-- each of them has its line end
+abbrev pub StandWhole : List (List (List ℕ)) → Type 0
+StandWhole lines = (rest : List ℕ) → raw_lines (bytes_of lines ++ rest) ≡ lines ++ raw_lines rest
 
 -- some logical lines have a last one, and it says something: without it they say less
 pub record LastLineSays (c : Cluster) (from : LineReaderAt) (lines : List (List (List ℕ))) : Type 0 where
@@ -64,12 +75,12 @@ pub record HasRead (c : Cluster) (old new : LineReaderAt) (before after : Option
   pub taken : TakesBytes before bytes after
   pub parts : old.reading.held ++ bytes ≡ bytes_of lines ++ new.reading.held
   pub cut : option_map (λ left. raw_lines (old.reading.held ++ left)) before ≡ option_map (λ left. lines ++ raw_lines (new.reading.held ++ left)) after
-  pub whole : new.reading.ended ≡ false → (old.reading.ended ≡ false) × StandWhole lines new.reading.held
+  pub whole : new.reading.ended ≡ false → (old.reading.ended ≡ false) × StandWhole lines
   pub answered : (others : List (List (List ℕ))) → said_by c old (lines ++ others) ≡ results_first given (said_by c new others)
   pub room : length (bytes_of lines) + new.reading.room ≡ old.reading.room
   pub same_size : new.reading.longest ≡ old.reading.longest
 
--- nothing was taken; or behind these lines fewer than 4,096 bytes, those that came with the end of the last of them
+-- no byte was taken; or of the bytes that were held and taken fewer than 4,096 lie behind these lines
 abbrev pub AreNear : LineReaderAt → List (List (List ℕ)) → List ℕ → Type 0
 AreNear old lines bytes = (bytes ≡ []) ⊎ (length (old.reading.held ++ bytes) < length (bytes_of lines) + 4096)
 
@@ -78,7 +89,7 @@ pub record AllIsRead (new : LineReaderAt) (after : Option (List ℕ)) : Type 0 w
   pub none_held : new.reading.held ≡ []
   pub none_left : IfSome after (λ left. left ≡ [])
 
--- the last of these lines is the first that isn't an answer: it is refused, or goes past the limit
+-- the last of these lines is the first that is refused or goes past the limit
 pub record IsStoppedBy (c : Cluster) (old : LineReaderAt) (before after : Option (List ℕ)) (given : List ResultLine) (why : LineStop) : Type 0 where
   pub lines : List (List (List ℕ))
   pub first : IfSome before (λ left. IsFront lines (raw_lines (old.reading.held ++ left)))
@@ -132,15 +143,18 @@ pub record HasStopped (old new : SourceState) (before after : Option (List ℕ))
   pub told : told_by old before ≡ option_map (λ left. record { results = given; stop = Some why }) after
   pub by : IsStoppedBy old.cluster old.lines before after given why
 
--- a source of answers at a moment: where it stands, what its source of bytes has left and how often that has failed, and the name of its loan
+-- a source of answers at a moment
 pub record SourceView : Type 0 where
   pub state : SourceState
+  -- the bytes that its source of bytes has left, if that is told
   pub left : Option (List ℕ)
+  -- how often its source of bytes has failed
   pub faults : ℕ
+  -- which source of bytes it is: two with one number here read from one
   pub loan : ℕ
 
--- what reading on has left of the count of failures of the source of bytes, by whether that failed last, and of its loan. An exact count is raised by
--- failures alone (see `Bears`)
+-- what reading on has left of the count of failures of the source of bytes, by whether that failed last. It is the source that it was. An exact count is
+-- raised by failures alone (see `Bears`)
 pub record HasCounted (exact : Bool) (failed : Type 0) (old new : SourceView) : Type 0 where
   pub bears : Bears exact failed old.faults new.faults
   pub same_source : new.loan ≡ old.loan
@@ -155,8 +169,8 @@ pub data HasQuestionFailed (exact : Bool) (old new : SourceView) : Type 0 where
   by_source : HasBroken old.state new.state old.left new.left → HasCounted exact (Unit {0}) old new → HasQuestionFailed exact old new
   by_line : HasStopped old.state new.state old.left new.left → HasCounted exact ⊥ old new → HasQuestionFailed exact old new
 
--- what questions have read, by what the last one brought. Of an answer it says only that none failed: which one it was, `CourseAnswers` says. After the
--- end of the input none fails, and after a line that stops the reading each does
+-- what questions have read, by what the last one brought. Of an answer it says only that none failed: which one it was, and that none comes after a line that
+-- stops the reading, `CourseAnswers` says
 abbrev pub HasSaid : Bool → SourceView → SourceView → Next → Type 0
 HasSaid exact old new (next.Answer given) = HasFollowed exact old new
 HasSaid exact old new next.Silent = HasFollowed exact old new × (has_course_ended new.state.course ≡ true)

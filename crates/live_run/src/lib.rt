@@ -33,10 +33,12 @@ mod live_end;
 mod running;
 
 // What follows from the definitions.
+mod line_laws;
 mod run_laws;
 
 pub use head::{HeadStop, HeadText, read_head};
 pub use held_text::HeldText;
+pub use line_laws::{heads_are_as_they_are_said, lines_stand_behind_those_before};
 pub use line_outcomes::LineOutcomes;
 pub use line_stop::{LineCause, LineStop};
 pub use line_writer::LineWriter;

@@ -4,7 +4,7 @@ ghost use Rattle.std.specs.Prelude.{◌≡◌, ◌≢◌, ◌+◌, ◌<◌, ◌�
 ghost use Rattle.crm_lex.specs.RawLines.{physical_lines};
 ghost use Rattle.crm_lex.specs.Reading.{kept};
 ghost use Rattle.faults.specs.declared.fault.Fault.TheVariants as found;
-ghost use Rattle.live_run.specs.LineSays.{answer_says, line_says, refused_for, words_say};
+ghost use Rattle.live_run.specs.LineSays.{answer_says, due_line_says, refused_for, words_say};
 ghost use Rattle.live_run.specs.Inner.LineFits.{SaidFits};
 ghost use Rattle.live_run.specs.declared.line_stop.LineCause.TheVariants as of_line;
 
@@ -79,7 +79,7 @@ fn words_say(names: &Names<'_>, place: Place, line: u32, words: &WordBuf) -> Sai
 
 /// What the bytes of a line say, whose first physical line has this number. The buffer then has its words. It takes no
 /// memory.
-pub(crate) fn line_says(
+pub(crate) fn due_line_says(
     names: &Names<'_>,
     place: Place,
     line: u32,
@@ -89,7 +89,7 @@ pub(crate) fn line_says(
     requires moment { place.moment < 2 ^ 40 }
     requires line { place.line ≡ line }
     requires numbers { line + length (physical_lines raw.now) ≤ 2 ^ 32 }
-    ensures says { result ≡ line_says names.now place raw.now }
+    ensures says { result ≡ due_line_says names.now place raw.now }
     ensures fits { SaidFits place result }
 {
     match lex_one(line, raw, words) {

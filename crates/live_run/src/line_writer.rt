@@ -9,7 +9,7 @@ ghost use Rattle.graph_exec.specs.WatcherLines.{ReasonsHaveNames, plan_lines};
 ghost use Rattle.live_run.specs.LineCauses.{line_refusal_text};
 ghost use Rattle.live_run.specs.HeldAndWritten.{IsSameSink, OffersHeld, OffersLast, Puts, PutsLast, most_held};
 ghost use Rattle.live_run.specs.Inner.WriteResults.{OffersBehind, PutsBehind, PutsLine, PutsLines};
-ghost use Rattle.trace_text.specs.RunLines.{HasName, HasShortNames, lent_line};
+ghost use Rattle.trace_text.specs.RunLines.{HasNamedRule, HasShortNames, lent_line};
 
 use crate::held_text::HeldText;
 use crate::line_stop::LineCause;
@@ -91,7 +91,7 @@ impl<'c, 's, W: Sink> LineWriter<'c, 's, W> {
 
     /// Holds back the line of a run.
     pub(crate) fn put(&mut self, line: &RunLineRef<'_>) -> Result<(), WriteFault>
-        requires { HasName line.now }
+        requires { HasNamedRule line.now }
         ensures cluster { writer_cluster self.new ≡ writer_cluster self.old }
         ensures line { PutsLine W.counts_only_failures (writer_view W.written W.faults self.old) (writer_view W.written W.faults self.new) result (lent_line line.now) }
         ensures whole { OffersBehind result (texts.run_line (writer_cluster self.old) (lent_line line.now)) (writer_held self.old) (writer_held self.new)

@@ -14,7 +14,7 @@ pub enum LiveEnd {
     /// The source of bytes failed. The run of the lines that were taken whole was written.
     ReadFault,
     /// The sink failed. A front of the text was written, in which of the lines before the last that was told at most 65,536
-    /// bytes are missing. Nothing was read since.
+    /// bytes are missing. No line was asked for since.
     WriteFault,
     /// Memory ran out between two transitions. The run up to there was written.
     NoMemory,

@@ -8,10 +8,10 @@ ghost use Rattle.live_run.specs.AnswersAtHand.{HoldsResultLine};
 ghost use Rattle.live_run.specs.AnswersToCome.{AreReady};
 ghost use Rattle.live_run.specs.Inner.ComingSteps.{Brings, answers_in, reads_on, is_stop_last, said_came};
 ghost use Rattle.live_run.specs.Inner.ReadSteps.{ReadUntil};
-ghost use Rattle.live_run.specs.LineSays.{line_says, place_behind_said};
+ghost use Rattle.live_run.specs.LineSays.{due_line_says, place_behind_said};
 ghost use Rattle.live_run.specs.Inner.LineFits.{SaidFits};
 
-use crate::line_saying::{Said, line_says};
+use crate::line_saying::{Said, due_line_says};
 use crate::line_stop::{LineCause, LineStop};
 use crate::place::Place;
 use cluster_io::{LineReader, LineStep, Source};
@@ -61,17 +61,17 @@ impl<'s, S: Source> ResultReader<'s, S> {
         requires line { self.old.at.line ≡ (reading_of self.old.lines).number }
         requires numbers { self.old.at.line + length (physical_lines (reading_of self.old.lines).raw) ≤ 2 ^ 32 }
         ensures came { result ≡ said_came self.old.at.line
-            (line_says names.now self.old.at (reading_of self.old.lines).raw) }
+            (due_line_says names.now self.old.at (reading_of self.old.lines).raw) }
         ensures place { self.new.at ≡ place_behind_said self.old.at
-            (line_says names.now self.old.at (reading_of self.old.lines).raw)
+            (due_line_says names.now self.old.at (reading_of self.old.lines).raw)
             (length (physical_lines (reading_of self.old.lines).raw)) }
-        ensures fits { SaidFits self.old.at (line_says names.now self.old.at (reading_of self.old.lines).raw) }
+        ensures fits { SaidFits self.old.at (due_line_says names.now self.old.at (reading_of self.old.lines).raw) }
         ensures lines { self.new.lines ≡ self.old.lines }
     {
         let line = self.lines.number();
         let raw = self.lines.raw();
         let lines = line_count(raw);
-        let said = line_says(names, self.at, line, raw, &mut self.words);
+        let said = due_line_says(names, self.at, line, raw, &mut self.words);
         self.at = self.at.behind(said, lines);
         said_came(said, line)
     }

@@ -12,7 +12,7 @@ ghost use Rattle.live_run.specs.Ends.{IsDueEnd};
 ghost use Rattle.live_run.specs.declared.line_stop.LineStop.TheVariants.{ReadFault};
 ghost use Rattle.live_run.specs.LineWriters.{writer_held, writer_cluster, writer_loan, sink_of};
 ghost use Rattle.live_run.specs.HeldAndWritten.{IsSameSink};
-ghost use Rattle.live_run.specs.RunReached.{Reaches, results_behind};
+ghost use Rattle.live_run.specs.RunReached.{ReachesEnd, results_behind};
 ghost use Rattle.live_run.specs.Inner.RunEnds.{EndsLines, end_as};
 
 use crate::live_end::LiveEnd;
@@ -73,7 +73,7 @@ fn run_to_end<S: Source, W: Sink>(
         ≡ starting cluster.now (moment_of journal.events) (state_of outcomes.old).lines.reading }
     requires names { writer_cluster writer.old ≡ cluster.now }
     requires empty { writer_held writer.old ≡ [] }
-    ensures reaches { IfSome (S.left (outcomes_source outcomes.old)) (λ left. Reaches cluster.now journal (state_of outcomes.old).lines.reading left
+    ensures reaches { IfSome (S.left (outcomes_source outcomes.old)) (λ left. ReachesEnd cluster.now journal (state_of outcomes.old).lines.reading left
         (S.left (outcomes_source outcomes.new)) (W.written (sink_of writer.old)) (W.written (sink_of writer.new)) result) }
     ensures at_end { result ≡ LiveEnd.Done → IfSome (S.left (outcomes_source outcomes.new)) (λ left. left ≡ []) }
     ensures reads { Bears S.counts_only_failures (result ≡ LiveEnd.ReadFault) (S.faults (outcomes_source outcomes.old)) (S.faults (outcomes_source outcomes.new)) }
@@ -126,7 +126,7 @@ pub fn run_live<S: Source, W: Sink>(
 
     // Where the source of bytes tells what it has left: what each end says of the text, of what was written and of what was read; and which end it is,
     // unless memory, a read or a write failed.
-    ensures reaches { IfSome (S.left (outcomes_source outcomes.old)) (λ left. Reaches cluster.now journal (state_of outcomes.old).lines.reading left
+    ensures reaches { IfSome (S.left (outcomes_source outcomes.old)) (λ left. ReachesEnd cluster.now journal (state_of outcomes.old).lines.reading left
         (S.left (outcomes_source outcomes.new)) (W.written out.old) (W.written out.new) result) }
     ensures complete { IfSome (S.left (outcomes_source outcomes.old)) (λ left. ¬ Rose (S.faults (outcomes_source outcomes.old)) (S.faults (outcomes_source outcomes.new))
         → ¬ Rose (W.faults out.old) (W.faults out.new) → result ≢ LiveEnd.NoMemory

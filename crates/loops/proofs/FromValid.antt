@@ -16,14 +16,14 @@ word_changes c r Promote h e = cc
 word_changes c r Demote h e = cc
 word_changes c r Monitor h e = h
 
-pub roles_join : (c : Cluster) (col : Colocation) → FitsRole c col.dependent col.dependent_role → FitsRole c col.primary col.primary_role
+roles_join : (c : Cluster) (col : Colocation) → FitsRole c col.dependent col.dependent_role → FitsRole c col.primary col.primary_role
     → JoinsLeaves c col
 roles_join c col dependent primary = record {
   dependent = role_leaf c col.dependent col.dependent_role dependent;
   primary = role_leaf c col.primary col.primary_role primary;
 }
 
-pub words_order : (c : Cluster) (o : Order) → MayHaveWord c o.first o.first_op → MayHaveWord c o.then_leaf o.then_op → OrdersSteps c o
+words_order : (c : Cluster) (o : Order) → MayHaveWord c o.first o.first_op → MayHaveWord c o.then_leaf o.then_op → OrdersSteps c o
 words_order c o first later = record {
   first = word_leaf c o.first o.first_op first;
   later = word_leaf c o.then_leaf o.then_op later;

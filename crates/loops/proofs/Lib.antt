@@ -7,10 +7,10 @@ pub mod LinkLoops
 pub mod FirstOrders
 pub mod OneFirst
 pub mod FromValid
+pub mod ComputedChains
 pub mod LoopTests
-pub mod ChainWays
+pub mod RankChains
 pub mod OneRanking
+pub mod ChainWays
 pub mod RankTables
 pub mod RankLists
-pub mod RankChains
-pub mod ComputedChains

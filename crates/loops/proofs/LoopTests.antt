@@ -1,95 +1,65 @@
 -- The tests of loops answer as the relations say, and, for a cluster with so many of the rules of another, by the place of its first loop.
-use Rattle.std.proofs.Common.{arith, ◌≡◌, ◌≤◌, ◌+◌, ◌*◌, ◌&&◌, ◌||◌, ℕ, suc, zero, nat_lt, Bool, true, false, List, [], ◌++◌, length, map, take, Option, Some, None, refl, sym, ap, ◌∙◌, subst, Contains, Any}
+use Rattle.std.proofs.Common.{arith, ◌≡◌, ◌≤◌, ◌+◌, ℕ, nat_lt, Bool, true, false, List, [], ◌++◌, length, map, take, Option, Some, None, refl, sym, ap, ◌∙◌, subst, Any}
 use Rattle.std.proofs.lemmas.List.Folds.{Any-from_list_any}
 use Rattle.std.proofs.Math.Seq.{take-length}
 use Rattle.std.proofs.lemmas.List.{append-nil}
 use Rattle.std.specs.Prelude.{◌↔◌}
 use Rattle.std.proofs.lemmas.Bool.{both_ways, false_from_ne_true}
 use Rattle.std.proofs.lemmas.Bool.Decides.{nat_tests}
-use Rattle.lemmas.proofs.Booleans.{later, same_test, sooner}
+use Rattle.lemmas.proofs.Booleans.{same_test}
 use Rattle.lemmas.proofs.Searches.{passes_by}
 use Rattle.edges.specs.declared.edge.Edge.{Edge}
+use Rattle.edges.specs.Chains.{leads_through}
 use Rattle.edges.specs.Loops.{HasLoop, HasNoLoop as NoLoopOfEdges}
 use Rattle.cluster_types.specs.declared.cluster.Cluster.{Cluster}
 use Rattle.cluster_types.specs.declared.leaf.Leaf.{Leaf}
-use Rattle.cluster_types.specs.declared.placement.Decision.{Decision}
 use Rattle.cluster_types.specs.declared.rules.Colocation.{Colocation}
 use Rattle.cluster_types.specs.declared.rules.Order.{Order}
-use Rattle.cluster_types.specs.Decisions.{NeedsHaveNoLoop, all_decisions, is_same_decision, needs, needs_through}
-use Rattle.cluster_types.specs.Numbers.{StepsHaveNoLoop, Link, LeafStep, is_same_step, links}
+use Rattle.cluster_types.specs.Decisions.{NeedsHaveNoLoop, all_decisions, needs_through}
+use Rattle.cluster_types.specs.Numbers.{StepsHaveNoLoop, LeafStep, links}
 use Rattle.loops.specs.Inner.Edges.{colocation_edge, leaf_edges, need_edges, step_edges}
-use Rattle.loops.specs.FirstLoops.{AllJoin, AllOrder, IsFirstColocation, IsFirstOrder, NeedsHaveLoop, StepsHaveLoop, has_need_loop, has_step_loop, is_closed_by, reaches, with_first_colocations, with_first_orders}
+use Rattle.loops.specs.FirstLoops.{AllJoin, AllOrder, IsFirstColocation, IsFirstOrder, NeedsHaveLoop, StepsHaveLoop, has_need_loop, has_step_loop, is_closed_by, is_link, with_first_colocations, with_first_orders}
 use Rattle.lemmas.proofs.Members.{in_none}
+use Rattle.loops.proofs.ComputedChains.{chain_begins, last_needed, links_computed, needs_computed}
 use Rattle.loops.proofs.FirstOrders.{first_ordered, own_free}
-use Rattle.loops.proofs.LinkLoops.{bounded_loop as bounded_steps, links_chain, loop_of_steps, steps_free, steps_loop}
-use Rattle.loops.proofs.NeedLoops.{bounded_loop as bounded_needs, first_joined, leaves_free, loop_of_needs, needs_chain, needs_free, needs_loop}
-use Rattle.loops.proofs.Needs.{same_decision}
+use Rattle.loops.proofs.LinkLoops.{loop_of_steps, steps_free, steps_loop}
+use Rattle.loops.proofs.NeedLoops.{first_joined, leaves_free, loop_of_needs, needs_free, needs_loop}
 use Rattle.loops.proofs.OneFirst.{all_colocations, all_orders_loop, needs_apart, needs_stay, steps_apart, steps_stay}
-use Rattle.loops.proofs.StepPlaces.{same_step}
-
--- where a chain of needs among some decisions ends, one of them stands
-module _ (c : Cluster) (among : List Decision) where
-  end_among : (most : ℕ) (d e : Decision) → needs_through c among most d e ≡ true → Contains among e
-  end_among zero d e h = absurd cc
-  end_among (suc most) d e h =
-      first (Any-from_list_any (λ f. needs c d f && (is_same_decision f e || needs_through c among most f e)) among h) (λ f on. end_among most f e on)
-    where
-      last : (f : Decision) → Contains among f → (same : Bool) → is_same_decision f e ≡ same → same || needs_through c among most f e ≡ true
-          → ((f : Decision) → needs_through c among most f e ≡ true → Contains among e) → Contains among e
-      last f there true same on next = rw (same_decision f e same) at there
-      last f there false same on next = next f on
-
-      first : Any (λ f. needs c d f && (is_same_decision f e || needs_through c among most f e) ≡ true) among
-          → ((f : Decision) → needs_through c among most f e ≡ true → Contains among e) → Contains among e
-      first (k, f, lt, at, h) next = last f (k, lt, at) (is_same_decision f e) refl (later (needs c d f) _ h) next
 
 module _ (c : Cluster) where
   pub loop_of_need : has_need_loop c ≡ true → NeedsHaveLoop c
-  loop_of_need h = on (Any-from_list_any (λ d. needs_through c (all_decisions c) (length (all_decisions c)) d d) (all_decisions c) h) where
-    on : Any (λ d. needs_through c (all_decisions c) (length (all_decisions c)) d d ≡ true) (all_decisions c) → NeedsHaveLoop c
-    on (k, d, lt, at, h) = record { decision = d; loop = needs_chain c (all_decisions c) (length (all_decisions c)) d d h }
+  loop_of_need h = on (Any-from_list_any (λ d. needs_through c (all_decisions c) d d) (all_decisions c) h) where
+    on : Any (λ d. needs_through c (all_decisions c) d d ≡ true) (all_decisions c) → NeedsHaveLoop c
+    on (k, d, lt, at, h) = record { decision = d; loop = (needs_computed c (all_decisions c) d d).1 h }
 
-  pub need_of_loop : AllJoin c → NeedsHaveLoop c → has_need_loop c ≡ true
-  need_of_loop joined l =
-      let one = bounded_needs c joined (loop_of_needs c joined l) in
-      passes_by (λ d. needs_through c (all_decisions c) (length (all_decisions c)) d d) (all_decisions c) one.thing
-      (end_among c (all_decisions c) (length (all_decisions c)) one.thing one.thing one.follows) one.follows
+  pub need_of_loop : NeedsHaveLoop c → has_need_loop c ≡ true
+  need_of_loop l =
+      passes_by (λ d. needs_through c (all_decisions c) d d) (all_decisions c) l.decision
+      (last_needed c (all_decisions c) l.decision l.decision l.loop) ((needs_computed c (all_decisions c) l.decision l.decision).0 l.loop)
 
-  pub need_of_none : AllJoin c → has_need_loop c ≡ false → NeedsHaveNoLoop c
-  need_of_none joined h d ring = both_ways _ h (need_of_loop joined (record { decision = d; loop = ring }))
+  pub need_of_none : has_need_loop c ≡ false → NeedsHaveNoLoop c
+  need_of_none h d ring = both_ways _ h (need_of_loop (record { decision = d; loop = ring }))
 
-  pub needs_tested : AllJoin c → has_need_loop c ≡ false ↔ NeedsHaveNoLoop c
-  needs_tested joined = (need_of_none joined, λ free. false_from_ne_true _ (λ h. let l = loop_of_need h in free l.decision l.loop))
+  pub needs_tested : has_need_loop c ≡ false ↔ NeedsHaveNoLoop c
+  needs_tested = (need_of_none, λ free. false_from_ne_true _ (λ h. let l = loop_of_need h in free l.decision l.loop))
 
--- the first link of a chain from a step
-record Begins (c : Cluster) (s : LeafStep) : Type 0 where
-  pub way : Link
-  pub among : Contains (links c) way
-  pub from : way.before ≡ s
-
-module _ (c : Cluster) where
-  begins : (most : ℕ) (s t : LeafStep) → reaches c most s t ≡ true → Begins c s
-  begins zero s t h = absurd cc
-  begins (suc most) s t h = on (Any-from_list_any (λ l. is_same_step l.before s && (is_same_step l.after t || reaches c most l.after t)) (links c) h) where
-    on : Any (λ l. is_same_step l.before s && (is_same_step l.after t || reaches c most l.after t) ≡ true) (links c) → Begins c s
-    on (k, l, lt, at, h) = record { way = l; among = (k, lt, at); from = same_step l.before s (sooner _ _ h) }
+  abbrev goes_round : LeafStep → Bool
+  goes_round s = leads_through (is_link c) (map (λ l. l.before) (links c)) s s
 
   pub loop_of_step : has_step_loop c ≡ true → StepsHaveLoop c
-  loop_of_step h = on (Any-from_list_any (λ l. reaches c (4 * length c.leaves) l.before l.before) (links c) h) where
-    on : Any (λ l. reaches c (4 * length c.leaves) l.before l.before ≡ true) (links c) → StepsHaveLoop c
-    on (k, l, lt, at, h) = record { step = l.before; loop = links_chain c (4 * length c.leaves) l.before l.before h }
+  loop_of_step h = on (Any-from_list_any goes_round (map (λ l. l.before) (links c)) h) where
+    on : Any (λ s. goes_round s ≡ true) (map (λ l. l.before) (links c)) → StepsHaveLoop c
+    on (k, s, lt, at, h) = record { step = s; loop = (links_computed c s s).1 h }
 
-  pub step_of_loop : AllOrder c → StepsHaveLoop c → has_step_loop c ≡ true
-  step_of_loop ordered l =
-      let one = bounded_steps c ordered (loop_of_steps c ordered l) in
-      let b = begins (4 * length c.leaves) one.thing one.thing one.follows in
-      passes_by (λ l. reaches c (4 * length c.leaves) l.before l.before) (links c) b.way b.among (rw b.from one.follows)
+  pub step_of_loop : StepsHaveLoop c → has_step_loop c ≡ true
+  step_of_loop l =
+      passes_by goes_round (map (λ l. l.before) (links c)) l.step (chain_begins c l.step l.step l.loop) ((links_computed c l.step l.step).0 l.loop)
 
-  pub step_of_none : AllOrder c → has_step_loop c ≡ false → StepsHaveNoLoop c
-  step_of_none ordered h s ring = both_ways _ h (step_of_loop ordered (record { step = s; loop = ring }))
+  pub step_of_none : has_step_loop c ≡ false → StepsHaveNoLoop c
+  step_of_none h s ring = both_ways _ h (step_of_loop (record { step = s; loop = ring }))
 
-  pub steps_tested : AllOrder c → has_step_loop c ≡ false ↔ StepsHaveNoLoop c
-  steps_tested ordered = (step_of_none ordered, λ free. false_from_ne_true _ (λ h. let l = loop_of_step h in free l.step l.loop))
+  pub steps_tested : has_step_loop c ≡ false ↔ StepsHaveNoLoop c
+  steps_tested = (step_of_none, λ free. false_from_ne_true _ (λ h. let l = loop_of_step h in free l.step l.loop))
 
 -- a cluster with the first so many colocations of another
 module _ (c d : Cluster) (joined : AllJoin c) (count : ℕ) (few : count ≤ length c.colocations) (leaves : d.leaves ≡ c.leaves)
@@ -119,7 +89,7 @@ module _ (c d : Cluster) (joined : AllJoin c) (count : ℕ) (few : count ≤ len
       false_from_ne_true _ (λ h. needs_apart c (all_colocations c joined (needs_stay c joined count (length c.colocations) few (first_needs (loop_of_need d h)))) free)
   needs_closed (Some place) closes =
       same_test (has_need_loop d) (nat_lt place count) (λ h. early h (nat_lt place count) refl)
-      (λ h. need_of_loop d all_joined (needs_of_first (needs_stay c joined (place + 1) count (grind (arith, nat_tests)) closes.closed)))
+      (λ h. need_of_loop d (needs_of_first (needs_stay c joined (place + 1) count (grind (arith, nat_tests)) closes.closed)))
     where
       early : has_need_loop d ≡ true → (b : Bool) → nat_lt place count ≡ b → nat_lt place count ≡ true
       early h true e = e
@@ -155,7 +125,7 @@ module _ (c d : Cluster) (ordered : AllOrder c) (count : ℕ) (few : count ≤ l
       false_from_ne_true _ (λ h. steps_apart c (all_orders_loop c ordered (steps_stay c ordered count (length c.orders) few (first_steps (loop_of_step d h)))) free)
   steps_closed (Some place) closes =
       same_test (has_step_loop d) (nat_lt place count) (λ h. early h (nat_lt place count) refl)
-      (λ h. step_of_loop d all_ordered (steps_of_first (steps_stay c ordered (place + 1) count (grind (arith, nat_tests)) closes.closed)))
+      (λ h. step_of_loop d (steps_of_first (steps_stay c ordered (place + 1) count (grind (arith, nat_tests)) closes.closed)))
     where
       early : has_step_loop d ≡ true → (b : Bool) → nat_lt place count ≡ b → nat_lt place count ≡ true
       early h true e = e

@@ -1,5 +1,5 @@
 -- Loops of needs are loops of their edges.
-use Rattle.std.proofs.Common.{arith, ◌≡◌, ◌<◌, ◌≤◌, ◌+◌, ◌-◌, ◌*◌, ℕ, true, List, map, length, take, refl, sym, ap, inl, inr, Contains}
+use Rattle.std.proofs.Common.{arith, ◌≡◌, ◌<◌, ◌≤◌, ◌+◌, ◌-◌, ◌*◌, ℕ, map, length, take, sym, ap, inl, inr, Contains}
 use Rattle.std.specs.List.{range_with_len}
 use Rattle.std.proofs.Math.Seq.{take-append-add}
 use Rattle.std.proofs.lemmas.Bool.{cases_lt}
@@ -7,40 +7,40 @@ use Rattle.std.proofs.lemmas.List.{length-append, length-map, take-append-le, ta
 use Rattle.std.proofs.lemmas.List.Elements.{Contains-append_cases}
 use Rattle.std.proofs.lemmas.List.FromFn.{length-map-range_with_len}
 use Rattle.edges.specs.declared.edge.Edge.{Edge}
-use Rattle.edges.specs.Chains.{Chain}
-use Rattle.edges.specs.Loops.{ClosesFirst, EndsWithin, HasLoop, HasNoLoop, HasShortLoop, RiseSomehow}
+use Rattle.edges.specs.Loops.{ClosesFirst, EndsWithin, HasLoop, HasNoLoop, RiseSomehow}
 use Rattle.edges.proofs.Endings.{one_way}
 use Rattle.edges.proofs.Heights.{rise_somehow}
-use Rattle.edges.proofs.Paths.{loop_of_path, loop_or_none, none_where_rising}
-use Rattle.edges.proofs.Relations.{FollowsItself, StandsFor, one_follows_itself}
+use Rattle.edges.proofs.Paths.{loop_or_none, none_where_rising}
 use Rattle.cluster_types.specs.declared.cluster.Cluster.{Cluster}
 use Rattle.cluster_types.specs.declared.leaf.Role.{Role}
 use Rattle.cluster_types.specs.declared.leaf.Role.TheVariants.{Started, Promoted}
 use Rattle.cluster_types.specs.declared.placement.Decision.{Decision}
 use Rattle.cluster_types.specs.declared.placement.Decision.TheVariants.{Promote}
-use Rattle.cluster_types.specs.Decisions.{IsNeedLink, NeedsHaveNoLoop, all_decisions, decision_of, is_same_decision, needs, needs_through}
+use Rattle.cluster_types.specs.Decisions.{IsNeedLink, NeedsHaveNoLoop, all_decisions, decision_of}
 use Rattle.loops.specs.Inner.Edges.{colocation_edge, decision_position, leaf_edge, leaf_edges, need_edges}
 use Rattle.loops.specs.FirstLoops.{AllJoin, ClosesNeeds, NeedsHaveLoop, with_first_colocations}
 use Rattle.lemmas.proofs.Members.{of_map, of_range, contains_first}
-use Rattle.loops.proofs.Chained.{chain_of, no_ring}
-use Rattle.loops.proofs.Needs.{alike, count_of_decisions, edge_for, same_decision, way_for}
-
--- what is found over so many needs is a chain of needs
-pub needs_chain : (c : Cluster) (among : List Decision) (most : ℕ) (d e : Decision) → needs_through c among most d e ≡ true
-    → Chain (IsNeedLink c among) d e
-needs_chain c among =
-    chain_of (λ w s. needs c s w) (λ d. d) is_same_decision among (needs_through c among) (λ _ _. refl) (λ _ _ _. refl) (IsNeedLink c among) same_decision
-    (λ d e there needed. record { there = there; needed = needed })
+use Rattle.edges.proofs.Relations.{OneAt, ring_of_loop}
+use Rattle.loops.proofs.Chained.{no_ring}
+use Rattle.loops.proofs.Needs.{edge_for, link_for, same_position}
 
 module _ (c : Cluster) (joined : AllJoin c) where
-  stands : (e : Edge) → Contains (need_edges c) e → StandsFor decision_position e.before
-  stands e h = elim (Contains-append_cases (leaf_edges (length c.leaves)) (map colocation_edge c.colocations) e h) [
+  begins_at : (e : Edge) → Contains (need_edges c) e → OneAt decision_position e.before
+  begins_at e h = elim (Contains-append_cases (leaf_edges (length c.leaves)) (map colocation_edge c.colocations) e h) [
     | inl l ↦
         let m = of_map leaf_edge (range_with_len 0 (length c.leaves)) e l in
-        record { thing = Promote m.source; here = sym (ap (λ (x : Edge). x.before) m.gives) }
+        record {
+          thing = Promote m.source;
+          here = sym (ap (λ (x : Edge). x.before) m.gives);
+          alone = λ d same. same_position (Promote m.source) d same;
+        }
     | inr r ↦
         let m = of_map colocation_edge c.colocations e r in
-        record { thing = decision_of m.source.dependent m.source.dependent_role; here = sym (ap (λ (x : Edge). x.before) m.gives) }
+        record {
+          thing = decision_of m.source.dependent m.source.dependent_role;
+          here = sym (ap (λ (x : Edge). x.before) m.gives);
+          alone = λ d same. same_position (decision_of m.source.dependent m.source.dependent_role) d same;
+        }
   ]
 
   role_within : (r : ℕ) (role : Role) (n : ℕ) → r < n → decision_position (decision_of r role) < 2 * n
@@ -62,18 +62,10 @@ module _ (c : Cluster) (joined : AllJoin c) where
         )
   ]
 
-  pub bounded_loop : HasLoop (need_edges c) → FollowsItself (needs_through c (all_decisions c)) (length (all_decisions c))
-  bounded_loop l =
-      let n = count_of_decisions c in
-      let f : HasShortLoop (length (all_decisions c)) (need_edges c) = rw n (loop_of_path (2 * length c.leaves) (need_edges c) needs_within l.at l.leads) in
-      one_follows_itself (λ w s. needs c s w) (λ d. d) is_same_decision (all_decisions c) (needs_through c (all_decisions c))
-      (λ _ _. refl) (λ _ _ _. refl)
-      (need_edges c) decision_position (λ w t _. alike w t) (way_for c joined) stands (length (all_decisions c)) f
-
   pub needs_loop : HasLoop (need_edges c) → NeedsHaveLoop c
   needs_loop l =
-      let one = bounded_loop l in
-      record { decision = one.thing; loop = needs_chain c (all_decisions c) (length (all_decisions c)) one.thing one.thing one.follows }
+      let one = ring_of_loop (IsNeedLink c (all_decisions c)) decision_position (need_edges c) (link_for c joined) begins_at l in
+      record { decision = one.thing; loop = one.chain }
 
   -- a height of the edges rises along each need
   pub need_rises : (rising : RiseSomehow (need_edges c)) (d e : Decision) → IsNeedLink c (all_decisions c) d e

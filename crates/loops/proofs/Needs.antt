@@ -1,21 +1,21 @@
 -- The needs of decisions as edges.
-use Rattle.std.proofs.Common.{arith, ◌≡◌, ◌<◌, ◌+◌, ◌*◌, ◌==◌, ◌&&◌, ◌||◌, not, ℕ, suc, zero, Bool, true, false, List, [], ◌∷◌, ◌++◌, map, length, refl, sym, ap, inl, inr, Contains, Any}
-use Rattle.std.specs.List.{flat_map, list_any, range_with_len}
-use Rattle.std.proofs.lemmas.Bool.{ne_eqb, and_from, or_left, or_right}
+use Rattle.std.proofs.Common.{arith, ◌≡◌, ◌<◌, ◌+◌, ◌&&◌, ◌||◌, not, ℕ, Bool, true, false, List, [], ◌∷◌, ◌++◌, map, length, refl, sym, ap, inl, inr, Contains, Any}
+use Rattle.std.specs.List.{list_any, range_with_len}
+use Rattle.std.proofs.lemmas.Bool.{and_from, or_left, or_right}
 use Rattle.std.proofs.lemmas.List.Elements.{Contains-append_left, Contains-append_right, Contains-append_cases}
 use Rattle.std.proofs.lemmas.List.Folds.{Any-from_list_any}
 use Rattle.std.proofs.lemmas.List.FromFn.{map-range_with_len_more}
 use Rattle.lemmas.proofs.Booleans.{sooner, later}
 use Rattle.lemmas.proofs.Searches.{passes_by}
 use Rattle.edges.specs.declared.edge.Edge.{Edge}
-use Rattle.edges.proofs.Relations.{EdgeFor, WayFor}
+use Rattle.edges.proofs.Relations.{EdgeFor, LinkFor}
 use Rattle.cluster_types.specs.declared.cluster.Cluster.{Cluster}
 use Rattle.cluster_types.specs.declared.leaf.Role.{Role}
 use Rattle.cluster_types.specs.declared.leaf.Role.TheVariants.{Started, Promoted}
 use Rattle.cluster_types.specs.declared.placement.Decision.{Decision}
 use Rattle.cluster_types.specs.declared.placement.Decision.TheVariants.{Place, Promote}
 use Rattle.cluster_types.specs.declared.rules.Colocation.{Colocation}
-use Rattle.cluster_types.specs.Decisions.{all_decisions, decision_of, is_place, is_same_decision, makes_need, leaf_of, needs}
+use Rattle.cluster_types.specs.Decisions.{IsNeedLink, all_decisions, decision_of, is_place, is_same_decision, makes_need, leaf_of, needs}
 use Rattle.loops.specs.Inner.Edges.{colocation_edge, decision_position, leaf_edge, leaf_edges, need_edges}
 use Rattle.loops.specs.FirstLoops.{JoinsLeaves}
 use Rattle.lemmas.proofs.Members.{Mapped, at_head, head_or_rest, in_flat, in_map, in_none, in_range, in_rest, of_flat, of_map, of_range}
@@ -50,15 +50,6 @@ pub placed_by : (r s : ℕ) (given : Role) → Place r ≡ decision_of s given �
 placed_by r s Started e = (cc, refl)
 placed_by r s Promoted e = cc
 
-pub alike : (d e : Decision) → is_same_decision d e ≡ (decision_position d == decision_position e)
-alike d e = on (is_same_decision d e) refl where
-  on : (b : Bool) → is_same_decision d e ≡ b → is_same_decision d e ≡ (decision_position d == decision_position e)
-  on true h = let p : decision_position d ≡ decision_position e = ap decision_position (same_decision d e h) in grind arith
-  on false h =
-      let differ : (decision_position d == decision_position e) ≡ false
-      = ne_eqb _ _ (λ p. let s = same_position d e p in let t = is_itself d in cc) in
-      cc
-
 -- the decisions of a cluster are those of its leaves
 
 module _ (c : Cluster) where
@@ -89,13 +80,6 @@ module _ (c : Cluster) where
   decision_there d lt =
       in_flat (λ r. Place r ∷ Promote r ∷ []) (range_with_len 0 (length c.leaves)) (leaf_of d) d
       (in_range 0 (length c.leaves) (leaf_of d) (omega arith) (omega arith)) (decision_in_pair d)
-
-two_a_leaf : (a n : ℕ) → length (flat_map (λ r. Place r ∷ Promote r ∷ []) (range_with_len a n)) ≡ 2 * n
-two_a_leaf a zero = refl
-two_a_leaf a (suc n) = let h = two_a_leaf (a + 1) n in omega arith
-
-pub count_of_decisions : (c : Cluster) → length (all_decisions c) ≡ 2 * length c.leaves
-count_of_decisions c = two_a_leaf 0 (length c.leaves)
 
 -- each need is an edge, and each edge a need
 
@@ -144,21 +128,23 @@ module _ (c : Cluster) (joined : (col : Colocation) → Contains c.colocations c
     on true e g = edge_of_leaf w s (leaf_there c w there) e
     on false e g = edge_of_colocation w s (Any-from_list_any (makes_need s w) c.colocations g)
 
-  way_of_leaf : (e : Edge) (s : Decision) → e.before ≡ decision_position s → Mapped leaf_edge (range_with_len 0 (length c.leaves)) e
-      → WayFor (λ w s. needs c s w) (λ d. d) (all_decisions c) decision_position e s
-  way_of_leaf e s from m =
+  link_of_leaf : (e : Edge) (s : Decision) → e.before ≡ decision_position s → Mapped leaf_edge (range_with_len 0 (length c.leaves)) e
+      → LinkFor (IsNeedLink c (all_decisions c)) decision_position e s
+  link_of_leaf e s from m =
       let starts : s ≡ Promote m.source = same_position s (Promote m.source) (let g = ap (λ (x : Edge). x.before) m.gives in cc) in
       let lt : m.source < length c.leaves = let l = of_range 0 (length c.leaves) m.source m.among in omega arith in
       record {
-        way = Place m.source;
-        among = decision_there c (Place m.source) lt;
-        begins = rw starts (or_left (is_same_decision (Place m.source) (Place m.source)) _ (is_itself (Place m.source)));
+        next = Place m.source;
+        link = record {
+          there = decision_there c (Place m.source) lt;
+          needed = rw starts (or_left (is_same_decision (Place m.source) (Place m.source)) _ (is_itself (Place m.source)));
+        };
         to = sym (ap (λ (x : Edge). x.after) m.gives);
       }
 
-  way_of_colocation : (e : Edge) (s : Decision) → e.before ≡ decision_position s → Mapped colocation_edge c.colocations e
-      → WayFor (λ w s. needs c s w) (λ d. d) (all_decisions c) decision_position e s
-  way_of_colocation e s from m =
+  link_of_colocation : (e : Edge) (s : Decision) → e.before ≡ decision_position s → Mapped colocation_edge c.colocations e
+      → LinkFor (IsNeedLink c (all_decisions c)) decision_position e s
+  link_of_colocation e s from m =
       let col : Colocation = m.source in
       let starts : s ≡ decision_of col.dependent col.dependent_role
       = same_position s (decision_of col.dependent col.dependent_role) (let g = ap (λ (x : Edge). x.before) m.gives in cc) in
@@ -166,13 +152,15 @@ module _ (c : Cluster) (joined : (col : Colocation) → Contains c.colocations c
       let lt : leaf_of (decision_of col.primary col.primary_role) < length c.leaves
       = leaf_of_role col.primary col.primary_role (length c.leaves) j.primary in
       record {
-        way = decision_of col.primary col.primary_role;
-        among = decision_there c (decision_of col.primary col.primary_role) lt;
-        begins = or_right (not (is_place s) && is_same_decision (decision_of col.primary col.primary_role) (Place (leaf_of s))) _
-            (passes_by (makes_need s (decision_of col.primary col.primary_role)) c.colocations col m.among
-            (and_from (is_same_decision s (decision_of col.dependent col.dependent_role)) _
-            (rw starts (is_itself (decision_of col.dependent col.dependent_role)))
-            (is_itself (decision_of col.primary col.primary_role))));
+        next = decision_of col.primary col.primary_role;
+        link = record {
+          there = decision_there c (decision_of col.primary col.primary_role) lt;
+          needed = or_right (not (is_place s) && is_same_decision (decision_of col.primary col.primary_role) (Place (leaf_of s))) _
+              (passes_by (makes_need s (decision_of col.primary col.primary_role)) c.colocations col m.among
+              (and_from (is_same_decision s (decision_of col.dependent col.dependent_role)) _
+              (rw starts (is_itself (decision_of col.dependent col.dependent_role)))
+              (is_itself (decision_of col.primary col.primary_role))));
+        };
         to = sym (ap (λ (x : Edge). x.after) m.gives);
       }
     where
@@ -180,10 +168,10 @@ module _ (c : Cluster) (joined : (col : Colocation) → Contains c.colocations c
       leaf_of_role r Started n lt = lt
       leaf_of_role r Promoted n lt = lt
 
-  pub way_for : (e : Edge) (s : Decision) → Contains (need_edges c) e → e.before ≡ decision_position s
-      → WayFor (λ w s. needs c s w) (λ d. d) (all_decisions c) decision_position e s
-  way_for e s h from =
+  pub link_for : (e : Edge) (s : Decision) → Contains (need_edges c) e → e.before ≡ decision_position s
+      → LinkFor (IsNeedLink c (all_decisions c)) decision_position e s
+  link_for e s h from =
       elim (Contains-append_cases (leaf_edges (length c.leaves)) (map colocation_edge c.colocations) e h) [
-        | inl l ↦ way_of_leaf e s from (of_map leaf_edge (range_with_len 0 (length c.leaves)) e l)
-        | inr r ↦ way_of_colocation e s from (of_map colocation_edge c.colocations e r)
+        | inl l ↦ link_of_leaf e s from (of_map leaf_edge (range_with_len 0 (length c.leaves)) e l)
+        | inr r ↦ link_of_colocation e s from (of_map colocation_edge c.colocations e r)
       ]

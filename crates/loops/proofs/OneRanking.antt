@@ -1,51 +1,47 @@
 -- The ranks are made up of those before them, and nothing else is.
-use Rattle.std.proofs.Common.{arith, ◌≡◌, ◌<◌, ◌≤◌, ◌+◌, ◌*◌, ℕ, suc, zero, List, [], ◌∷◌, length, map, fold, max, refl, sym, ◌∙◌, ap, Contains}
-use Rattle.edges.proofs.Longest.{fold_each, longest_are_heights, longest_bounded, map_alike}
+use Rattle.std.proofs.Common.{arith, ◌≡◌, ◌<◌, ◌≤◌, ◌+◌, ℕ, suc, zero, List, [], ◌∷◌, map, fold, max, refl, sym, ◌∙◌, ap, Contains}
+use Rattle.edges.specs.Chains.{ChainEnds, linked, no_link, then_link}
+use Rattle.edges.proofs.Longest.{fold_each, map_alike}
 use Rattle.cluster_types.specs.declared.cluster.Cluster.{Cluster}
-use Rattle.cluster_types.specs.Numbers.{StepsHaveNoLoop, Link, LeafStep, is_same_step, links, rank}
+use Rattle.cluster_types.specs.Numbers.{IsStepLink, StepsHaveNoLoop, Link, LeafStep, is_same_step, links, rank}
 use Rattle.cluster_types.specs.Valid.{IsValid}
-use Rattle.loops.specs.Inner.Edges.{step_edges}
 use Rattle.loops.specs.FirstLoops.{AllOrder}
-use Rattle.loops.proofs.LinkLoops.{steps_within}
-use Rattle.lemmas.proofs.Members.{at_head, in_filter, of_filter}
-use Rattle.loops.proofs.StepPlaces.{same_step, spot, step_itself}
+use Rattle.lemmas.proofs.Members.{at_head, in_filter, in_rest, of_filter}
+use Rattle.loops.proofs.StepPlaces.{same_step, step_itself}
 use Rattle.loops.proofs.FromValid.{valid_order}
 use Rattle.loops.specs.Ranks.{IsRanking, links_into}
-use Rattle.loops.proofs.ChainWays.{chains_are_ways, edges_free, rank_is}
+use Rattle.loops.proofs.RankChains.{chain_of_rank, none_longer, rank_rises}
 
--- a ranking rises along each link
-pub ranking_rises : (c : Cluster) (height : LeafStep → ℕ) → IsRanking c height → (l : Link) → Contains (links c) l → height l.before < height l.after
-ranking_rises c height is l h =
-    let into : Contains (links_into c l.after) l
-    = in_filter (λ (k : Link). is_same_step k.after l.after) (links c) l h (step_itself l.after) in
-    let up = fold_each (λ (k : Link). height k.before) 0 (links_into c l.after) l into in
-    let at = is l.after in
-    omega arith
+-- what is above a list is no higher than what each member is below
+above_each : {X : Type 0} (height : X → ℕ) (a most : ℕ) (xs : List X) → a ≤ most → ((x : X) → Contains xs x → height x < most)
+    → fold max a (map (λ x. height x + 1) xs) ≤ most
+above_each height a most [] low each = low
+above_each height a most (x ∷ xs) low each =
+    let first : height x < most = each x (at_head x xs x refl) in
+    above_each height (max a (height x + 1)) most xs (omega arith) (λ y h. each y (in_rest x xs y h))
 
 module _ (c : Cluster) (ordered : AllOrder c) (free : StepsHaveNoLoop c) where
-  -- a bound of one more changes nothing
-  pub rank_ranks : IsRanking c (rank c)
-  rank_ranks s =
-      rank_is c ordered s
-      ∙ longest_are_heights (4 * length c.leaves) (step_edges c) (steps_within c ordered) (edges_free c ordered free) (spot (length c.leaves) s)
-      ∙ sym (chains_are_ways c ordered (suc (4 * length c.leaves)) s)
+  before_lower : (s : LeafStep) (l : Link) → Contains (links_into c s) l → rank c l.before < rank c s
+  before_lower s l h =
+      let k = of_filter (λ (k : Link). is_same_step k.after s) (links c) l h in
+      let same : l.after ≡ s = same_step l.after s k.passes in
+      rw same at (rank_rises c ordered free l k.among)
 
-  pub rank_bounded : (s : LeafStep) → rank c s ≤ 4 * length c.leaves
-  rank_bounded s =
-      let r = rank_is c ordered s in
-      let b = longest_bounded (4 * length c.leaves) (step_edges c) (spot (length c.leaves) s) in
+  no_higher : (m : ℕ) (s : LeafStep) → ChainEnds (IsStepLink c) m s → m ≤ fold max 0 (map (λ l. rank c l.before + 1) (links_into c s))
+  no_higher _ _ (no_link s) = omega arith
+  no_higher _ _ (then_link n _ _ before (linked l h)) =
+      let so_far = none_longer c ordered free n l.before before in
+      let into : Contains (links_into c l.after) l = in_filter (λ (k : Link). is_same_step k.after l.after) (links c) l h (step_itself l.after) in
+      let up = fold_each (λ (k : Link). rank c k.before) 0 (links_into c l.after) l into in
       omega arith
 
-  pub rank_rises : (l : Link) → Contains (links c) l → rank c l.before < rank c l.after
-  rank_rises l h = ranking_rises c (rank c) rank_ranks l h
+  pub rank_ranks : IsRanking c (rank c)
+  rank_ranks s =
+      let up = no_higher (rank c s) s (chain_of_rank c s) in
+      let down = above_each (λ (l : Link). rank c l.before) 0 (rank c s) (links_into c s) (omega arith) (before_lower s) in
+      omega arith
 
   module _ (height : LeafStep → ℕ) (is : IsRanking c height) where
-    before_lower : (s : LeafStep) (l : Link) → Contains (links_into c s) l → rank c l.before < rank c s
-    before_lower s l h =
-        let k = of_filter (λ (k : Link). is_same_step k.after s) (links c) l h in
-        let same : l.after ≡ s = same_step l.after s k.passes in
-        rw same at (rank_rises l k.among)
-
     agrees : (m : ℕ) (s : LeafStep) → rank c s ≤ m → height s ≡ rank c s
     agrees zero s le =
         let none : links_into c s ≡ [] = no_link (links_into c s) (before_lower s) in

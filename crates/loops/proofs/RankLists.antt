@@ -5,6 +5,7 @@ use Rattle.std.proofs.lemmas.List.{get_or_past}
 use Rattle.edges.specs.LongestChains.{longest}
 use Rattle.edges.proofs.Longest.{longest_past}
 use Rattle.cluster_types.specs.declared.cluster.Cluster.{Cluster}
+use Rattle.cluster_types.specs.Numbers.{StepsHaveNoLoop}
 use Rattle.cluster_types.specs.declared.leaf.Op.{Op}
 use Rattle.cluster_types.specs.declared.leaf.Op.TheVariants.{Start, Stop, Promote, Demote, Monitor}
 use Rattle.loops.specs.Inner.Edges.{step_edges}
@@ -16,7 +17,7 @@ use Rattle.loops.specs.Ranks.{AreRanks}
 use Rattle.loops.proofs.ChainWays.{rank_is}
 use Rattle.loops.proofs.RankTables.{rank_of_all}
 
-module _ (c : Cluster) (ordered : AllOrder c) (ranks : List ℕ) (size : length ranks ≡ 4 * length c.leaves)
+module _ (c : Cluster) (ordered : AllOrder c) (free : StepsHaveNoLoop c) (ranks : List ℕ) (size : length ranks ≡ 4 * length c.leaves)
     (each : (x : ℕ) → x < 4 * length c.leaves → slice_index_or ranks x 0 ≡ longest (4 * length c.leaves) (step_edges c) x) where
   -- behind the last position there is nothing
   at_each : (x : ℕ) → slice_index_or ranks x 0 ≡ longest (4 * length c.leaves) (step_edges c) x
@@ -37,4 +38,4 @@ module _ (c : Cluster) (ordered : AllOrder c) (ranks : List ℕ) (size : length 
       (omega arith))
 
   pub are_ranks : AreRanks c (all_ranked ranks)
-  are_ranks s = rank_of_all ranks s.what s.leaf ∙ at_op s.what s.leaf ∙ sym (rank_is c ordered s)
+  are_ranks s = rank_of_all ranks s.what s.leaf ∙ at_op s.what s.leaf ∙ sym (rank_is c ordered free s)

@@ -1,7 +1,7 @@
 -- The first rule with which the rules of a cluster have a loop (rule of this project).
-use Rattle.std.specs.Prelude.{◌≢◌, ◌<◌, ◌+◌, ◌*◌, ◌&&◌, ◌||◌, ℕ, suc, zero, nat_lt, Bool, false, Option, Some, None, length, take, Contains}
+use Rattle.std.specs.Prelude.{◌≢◌, ◌<◌, ◌+◌, ◌&&◌, ℕ, nat_lt, Bool, false, Option, Some, None, length, map, take, Contains}
 use Rattle.std.specs.List.{list_any}
-use Rattle.edges.specs.Chains.{Chain}
+use Rattle.edges.specs.Chains.{Chain, leads_through}
 use Rattle.cluster_types.specs.declared.cluster.Cluster.{Cluster}
 use Rattle.cluster_types.specs.declared.leaf.Op.TheVariants.{Monitor}
 use Rattle.cluster_types.specs.declared.placement.Decision.{Decision}
@@ -46,26 +46,25 @@ pub record StepsHaveLoop (c : Cluster) : Type 0 where
   pub step : LeafStep
   pub loop : Chain (IsStepLink c) step step
 
--- some decision needs itself, computed: no chain has to have more needs than there are decisions (`loops_are_computed`)
+-- some decision needs itself through a chain of needs, computed (`loops_are_computed`)
 abbrev pub has_need_loop : Cluster → Bool
-has_need_loop c = list_any (λ d. needs_through c (all_decisions c) (length (all_decisions c)) d d) (all_decisions c)
+has_need_loop c = list_any (λ d. needs_through c (all_decisions c) d d) (all_decisions c)
 
--- a chain of at most so many links leads from the one step to the other
-abbrev pub reaches : Cluster → ℕ → LeafStep → LeafStep → Bool
-reaches c zero s t = false
-reaches c (suc most) s t = list_any (λ l. is_same_step l.before s && (is_same_step l.after t || reaches c most l.after t)) (links c)
+-- a link leads from the one step to the other
+abbrev pub is_link : Cluster → LeafStep → LeafStep → Bool
+is_link c s t = list_any (λ l. is_same_step l.before s && is_same_step l.after t) (links c)
 
--- some step leads back to itself, computed: no chain has to have more links than there are steps, four a leaf (`loops_are_computed`)
+-- a chain of links leads from some step back to it, through none but steps at which links begin, computed (`loops_are_computed`)
 abbrev pub has_step_loop : Cluster → Bool
-has_step_loop c = list_any (λ l. reaches c (4 * length c.leaves) l.before l.before) (links c)
+has_step_loop c = list_any (λ s. leads_through (is_link c) (map (λ l. l.before) (links c)) s s) (map (λ l. l.before) (links c))
 
--- the colocation at this place, from 0, closes the first loop: with those before it the needs have no loop, and with it too they have one
+-- the colocation at this place, from 0, closes the first loop: the colocations before it make no loop of needs, and with it they make one
 pub record ClosesNeeds (c : Cluster) (place : ℕ) : Type 0 where
   pub within : place < length c.colocations
   pub before : NeedsHaveNoLoop (with_first_colocations c place)
   pub closed : NeedsHaveLoop (with_first_colocations c (place + 1))
 
--- the order at this place, from 0, closes the first loop: with those before it the links have no loop, and with it too they have one
+-- the order at this place, from 0, closes the first loop: the orders before it make no loop of links, and with it they make one
 pub record ClosesSteps (c : Cluster) (place : ℕ) : Type 0 where
   pub within : place < length c.orders
   pub before : StepsHaveNoLoop (with_first_orders c place)

@@ -1,4 +1,4 @@
--- The ranks of the steps of a cluster, and the order of numbers by them (rule of this project).
+-- The ranks of the steps of a cluster: how they are made up, and a table of them (rule of this project).
 use Rattle.std.specs.Prelude.{◌≡◌, ◌+◌, ℕ, Bool, if◌then◌else◌, List, [], ◌∷◌, map, filter, fold, max}
 use Rattle.listed.specs.Flags.{is_marked}
 use Rattle.cluster_types.specs.declared.cluster.Cluster.{Cluster}

@@ -20,7 +20,7 @@ pub use colocations::{colocation_loop, joins_leaves};
 pub(crate) use orders::link_edges;
 pub use orders::{order_loop, orders_steps};
 pub use place::Place;
-pub use rank_laws::{rank_is_computed, ranks_are_longest_chains, ranks_are_unique, ranks_rise};
+pub use rank_laws::{ranks_are_computed, ranks_are_one_above, ranks_are_unique, ranks_rise};
 pub use ranking::{StepRanks, ranks};
 pub use rule_laws::{
     first_colocation_is_unique, first_order_is_unique, first_rules_have_the_loop,

@@ -44,7 +44,7 @@ fn is_there(cluster: &Cluster, step: Step) -> bool
 fn is_counted(cluster: &Cluster, before: Step, after: Step) -> bool
     ensures { result ≡ counts_link cluster.now (link before.what before.leaf after.what after.leaf) }
 {
-    before.what.is_up() == after.what.is_up()
+    before.what.is_giving() == after.what.is_giving()
         && is_there(cluster, before)
         && is_there(cluster, after)
 }

@@ -82,7 +82,7 @@ fn push_inverse(edges: &mut Vec<Edge>, cluster: &Cluster, order: &Order) -> Resu
     requires later { order.now.then_leaf < 1000000000 }
     ensures { OnOk result (edges.new.items ≡ edges.old.items ++ edges_of cluster.now (inverse_links order.now)) }
 {
-    if order.first_op.is_up() && order.then_op.is_up() {
+    if order.first_op.is_giving() && order.then_op.is_giving() {
         return push_all_takers(edges, cluster, order);
     }
     let before = step(order.then_op.inverse(), order.then_leaf);

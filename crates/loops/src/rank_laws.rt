@@ -6,18 +6,18 @@ ghost use Rattle.cluster_types.specs.Numbers.{StepsHaveNoLoop, IsRank, Link, Lea
 ghost use Rattle.loops.specs.FirstLoops.{AllOrder};
 ghost use Rattle.loops.specs.Ranks.{IsRanking};
 
-/// What `rank` computes is the rank of the step, the length of the longest chain of links that ends at it, and no other number is.
-pub fn rank_is_computed()
+/// What `rank` computes is the rank of the step, the length of the longest chain of links that ends at it. The rank is unique: no other number
+/// is such a length.
+pub fn ranks_are_computed()
     ensures { (c : Cluster) → AllOrder c → StepsHaveNoLoop c → (s : LeafStep) (count : ℕ) → IsRank c s count ↔ (count ≡ rank c s) }
 {}
 
-/// The rank of a step is one more than the greatest rank of those that a link has before it, and 0 where there are none: the bound that
-/// the definition gives to chains cuts none off.
-pub fn ranks_are_longest_chains()
+/// The rank of a step is one more than the greatest rank of those that a link has before it, and 0 where there are none.
+pub fn ranks_are_one_above()
     ensures { (c : Cluster) → AllOrder c → StepsHaveNoLoop c → IsRanking c (rank c) }
 {}
 
-/// Nothing else is made up so.
+/// Ranks are unique: whatever gives each step one more than the greatest of those before it gives it its rank.
 pub fn ranks_are_unique()
     ensures { (c : Cluster) → AllOrder c → StepsHaveNoLoop c → (height : LeafStep → ℕ) → IsRanking c height → (s : LeafStep) → height s ≡ rank c s }
 {}

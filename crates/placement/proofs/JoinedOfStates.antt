@@ -63,4 +63,4 @@ module _ (c : Cluster) (es : List Event) (ps : List Promotion) where
       go false e is with_it without = let by = is ∙ e in record { same = rw (by, e) without.same; below = rw e without.below }
 
   pub all-joins : (r : ℕ) → r < length c.leaves → Joins (r ∷ []) (lenders c r)
-  all-joins r low = joins (r ∷ []) (lenders c r) (low, tt) (filtered (λ s. is_tied c (length c.leaves) s r) (length c.leaves) 0 (length c.leaves) (omega arith))
+  all-joins r low = joins (r ∷ []) (lenders c r) (low, tt) (filtered (λ s. is_tied c s r) (length c.leaves) 0 (length c.leaves) (omega arith))

@@ -10,7 +10,7 @@ use Rattle.cluster_types.specs.declared.journal.Promotion.{Promotion}
 use Rattle.cluster_types.specs.declared.placement.Decision.{Decision}
 use Rattle.cluster_types.specs.declared.states.Cell.{Cell}
 use Rattle.cluster_types.specs.CellStates.{cell_state}
-use Rattle.cluster_types.specs.Decisions.{Key, greater_key, greatest_of, is_active_for, key_of, leaf_of, needs_through, totals_where}
+use Rattle.cluster_types.specs.Decisions.{Key, greater_key, greatest_of, is_active_for, key_of, leaf_of, needs_through, bases_where}
 use Rattle.cluster_types.specs.Fields.{priority}
 use Rattle.cluster_types.specs.NodeStates.{is_usable}
 use Rattle.cluster_types.specs.Terms.{base}
@@ -20,14 +20,14 @@ use Rattle.placement.specs.Scores.{score_in, scores_of}
 use Rattle.placement.specs.UsableNodes.{is_usable_by}
 use Rattle.placement.proofs.OwnOfStates.{usable-is}
 use Rattle.placement.proofs.TableOfStates.{total-is}
-use Rattle.placement.specs.Inner.DecisionLists.{is_active_by_cell, compared_key, totals_where_by}
+use Rattle.placement.specs.Inner.DecisionLists.{is_active_by_cell, compared_key, bases_where_by}
 use Rattle.placement.specs.Inner.EffectiveKeys.{effective_in}
 use Rattle.placement.proofs.Alike.{map-on}
 
 module _ (c : Cluster) (es : List Event) (ps : List Promotion) (d : Decision) (leaf : leaf_of d < length c.leaves) where
   -- the totals of the decision on the nodes that pass
   totals-are : (passes also : ℕ → Bool) → ((n : ℕ) → n < length c.nodes → passes n ≡ also n)
-      → totals_where_by c (states_of c es ps) (scores_of c es ps) passes d ≡ totals_where c es ps also d
+      → bases_where_by c (states_of c es ps) (scores_of c es ps) passes d ≡ bases_where c es ps also d
   totals-are passes also same =
       ap (map (score_in (scores_of c es ps) d)) (filter-same passes also (length c.nodes) same)
       ∙ map-on (score_in (scores_of c es ps) d) (base c es ps d) (filter also (range_with_len 0 (length c.nodes)))
@@ -47,6 +47,6 @@ module _ (c : Cluster) (es : List Event) (ps : List Promotion) (d : Decision) (l
 pub effective-same : (c : Cluster) (ds : List Decision) (key other : Decision → Key) → ((d : Decision) → Contains ds d → key d ≡ other d)
     → (d : Decision) → Contains ds d → effective_in c ds key d ≡ effective_in c ds other d
 effective-same c ds key other same d h =
-    let needing : Decision → Bool = λ e. needs_through c ds (length ds) e d in
+    let needing : Decision → Bool = λ e. needs_through c ds e d in
     ap (λ (k : Key). fold greater_key k (map key (filter needing ds))) (same d h)
     ∙ ap (fold greater_key (other d)) (map-on key other (filter needing ds) (λ e there. let k : Kept needing ds e = of_filter needing ds e there in same e k.among))

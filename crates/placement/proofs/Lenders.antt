@@ -22,17 +22,17 @@ terms-more c states leaves s n =
 
 module _ (c : Cluster) (states : States) (r s : ℕ) where
   -- one that is tied to the leaf is tried
-  pub lend-more : is_tied c (length c.leaves) s r ≡ true
+  pub lend-more : is_tied c s r ≡ true
       → joined_below c states r (s + 1) ≡ with_lender_by c states (joined_below c states r s) s
   lend-more tied =
-      ap (fold (with_lender_by c states) (r ∷ [])) (filter-more (λ t. is_tied c (length c.leaves) t r) s true tied)
-      ∙ fold-append (with_lender_by c states) (r ∷ []) (filter (λ t. is_tied c (length c.leaves) t r) (range_with_len 0 s)) (s ∷ [])
+      ap (fold (with_lender_by c states) (r ∷ [])) (filter-more (λ t. is_tied c t r) s true tied)
+      ∙ fold-append (with_lender_by c states) (r ∷ []) (filter (λ t. is_tied c t r) (range_with_len 0 s)) (s ∷ [])
 
   -- another isn't
-  pub lend-skip : is_tied c (length c.leaves) s r ≡ false → joined_below c states r (s + 1) ≡ joined_below c states r s
+  pub lend-skip : is_tied c s r ≡ false → joined_below c states r (s + 1) ≡ joined_below c states r s
   lend-skip tied =
-      ap (fold (with_lender_by c states) (r ∷ [])) (filter-more (λ t. is_tied c (length c.leaves) t r) s false tied
-      ∙ append-nil (filter (λ t. is_tied c (length c.leaves) t r) (range_with_len 0 s)))
+      ap (fold (with_lender_by c states) (r ∷ [])) (filter-more (λ t. is_tied c t r) s false tied
+      ∙ append-nil (filter (λ t. is_tied c t r) (range_with_len 0 s)))
 
   kept : (joined : List ℕ) (b : Bool) → sum_by (own_size c) joined ≤ own_size c r + size_below c s
       → sum_by (own_size c) (if b then joined ++ s ∷ [] else joined) ≤ own_size c r + size_below c (s + 1)
@@ -45,7 +45,7 @@ module _ (c : Cluster) (states : States) (r s : ℕ) where
   size-tried joined h = kept joined (leaves_a_node_by c states (joined ++ s ∷ [])) h
 
 module _ (c : Cluster) (states : States) (r : ℕ) where
-  size-step : (s : ℕ) (b : Bool) → is_tied c (length c.leaves) s r ≡ b → sum_by (own_size c) (joined_below c states r s) ≤ own_size c r + size_below c s
+  size-step : (s : ℕ) (b : Bool) → is_tied c s r ≡ b → sum_by (own_size c) (joined_below c states r s) ≤ own_size c r + size_below c s
       → sum_by (own_size c) (joined_below c states r (s + 1)) ≤ own_size c r + size_below c (s + 1)
   size-step s true e h =
       subst (λ js. sum_by (own_size c) js ≤ own_size c r + size_below c (s + 1)) (sym (lend-more c states r s e))
@@ -59,7 +59,7 @@ module _ (c : Cluster) (states : States) (r : ℕ) where
   size-below zero = omega arith
   size-below (suc s) =
       subst (λ k. sum_by (own_size c) (joined_below c states r k) ≤ own_size c r + size_below c k) (let e : s + 1 ≡ suc s = omega arith in e)
-      (size-step s (is_tied c (length c.leaves) s r) refl (size-below s))
+      (size-step s (is_tied c s r) refl (size-below s))
 
   pub few-joined : KeepsLimits c → (s : ℕ) → s ≤ length c.leaves → (n : ℕ) → few (terms_by c states (joined_below c states r s) n) ≤ 6000
   few-joined limits s low n =

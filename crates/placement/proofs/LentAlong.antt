@@ -1,45 +1,29 @@
--- A key that is lent along one link: none falls, and none rises above what it is through so many needs.
-use Rattle.std.proofs.Common.{arith, ◌≡◌, ◌<◌, ℕ, suc, Bool, true, false, if◌then◌else◌, Option, Some, None, List, length, set, Contains, refl, sym, ap, subst, ◌∙◌}
+-- A key that is lent along one link: none falls, and none rises above the greatest of those that need it.
+use Rattle.std.proofs.Common.{arith, ◌≡◌, ◌<◌, Bool, true, false, if◌then◌else◌, Option, Some, None, List, length, set, Contains, refl, sym, ap, subst, ◌∙◌}
 use Rattle.loops.proofs.Needs.{is_itself, same_decision}
 use Rattle.cluster_types.specs.declared.cluster.Cluster.{Cluster}
 use Rattle.cluster_types.specs.declared.placement.Decision.{Decision}
 use Rattle.cluster_types.specs.Decisions.{Key, greater_key, is_among, is_less, is_same_decision, leaf_of, needs}
 use Rattle.plan_laws.proofs.MadeOnes.{stands_among}
 use Rattle.placement.specs.Inner.Flags.{slot_of}
-use Rattle.placement.specs.Inner.Lending.{AreKeys, effective_within, greater_by, is_raised, slot_key_at, keys_among, lent_along, raises, with_lent}
+use Rattle.placement.specs.Inner.EffectiveKeys.{effective_in}
+use Rattle.placement.specs.Inner.Lending.{AreKeys, greater_by, is_raised, slot_key_at, keys_among, lent_along, raises, with_lent}
 use Rattle.placement.specs.Inner.Links.{lending_link}
-use Rattle.placement.proofs.EffectiveBounds.{each_within, most_within, own_within}
+use Rattle.placement.proofs.EffectiveBounds.{needed_has_more}
 use Rattle.placement.proofs.FlagLaws.{slot-within}
 use Rattle.placement.proofs.KeyOrder.{at_most_onward, least_bound, not_itself, own_kept, second_kept}
-use Rattle.placement.proofs.LastNeeds.{more_needs, need_at_end, one_need}
 use Rattle.placement.proofs.ReadyFlags.{among-is}
 use Rattle.placement.proofs.SlotLaws.{kept-is, keys-same, lent-nothing, lent-one, set-one}
 
 module _ (c : Cluster) (ds : List Decision) (key : Decision → Key) where
-  abbrev within : ℕ → Decision → Key
-  within = effective_within c ds key
+  abbrev greatest : Decision → Key
+  greatest = effective_in c ds key
 
-  -- the slots have these keys of what is decided: none is less than its own, and none greater than through so many needs
+  -- the slots have these keys of what is decided: none is less than its own, and none greater than the greatest of those that need it
   pub record Lent (now : Decision → Key) (slots : List (Option Key)) : Type 0 where
     pub are : AreKeys (length c.leaves) (keys_among ds now) slots
     pub least : (d : Decision) → is_less (now d) (key d) ≡ false
-    pub most : ℕ
-    pub bounded : (d : Decision) → Contains ds d → is_less (within most d) (now d) ≡ false
-
-  -- none is less than through so many needs
-  abbrev pub Reach : (Decision → Key) → ℕ → Type 0
-  Reach now n = (d : Decision) → Contains ds d → is_less (now d) (within n d) ≡ false
-
-  -- through one need more there is no less
-  wider : (n : ℕ) (d : Decision) → is_less (within (suc n) d) (within n d) ≡ false
-  wider n d =
-      most_within c ds key n d (within (suc n) d) (own_within c ds key (suc n) d)
-      (λ e there h. each_within c ds key (suc n) d e there (more_needs c ds n e d h))
-
-  over_needing : (n : ℕ) (d f : Decision) → Contains ds d → Contains ds f → needs c f d ≡ true → is_less (within (suc n) d) (within n f) ≡ false
-  over_needing n d f there also wants =
-      most_within c ds key n f (within (suc n) d) (each_within c ds key (suc n) d f also (one_need c ds n f d there wants))
-      (λ e present h. each_within c ds key (suc n) d e present (need_at_end c ds n e f d there wants h))
+    pub bounded : (d : Decision) → Contains ds d → is_less (greatest d) (now d) ≡ false
 
   -- x gets the key of f, if that is greater
   module _ (now : Decision → Key) (x f : Decision) where
@@ -71,25 +55,22 @@ module _ (c : Cluster) (ds : List Decision) (key : Decision → Key) where
         = ap (λ (b : Bool). if b then greater_by (now x) (keys_among ds now f) else now x) (is_itself x) ∙ ap (greater_by (now x)) has in
         subst (λ (k : Key). is_less k (now f) ≡ false) (sym is) (second_kept (now x) (now f) (is_less (now x) (now f)) refl)
 
-    then_bounded : (n : ℕ) → needs c f x ≡ true → ((d : Decision) → Contains ds d → is_less (within n d) (now d) ≡ false) → (d : Decision) → Contains ds d
-        → is_less (within (suc n) d) (then_key d) ≡ false
-    then_bounded n wants bounded d there = go (is_same_decision x d) refl
+    then_bounded : needs c f x ≡ true → ((d : Decision) → Contains ds d → is_less (greatest d) (now d) ≡ false) → (d : Decision) → Contains ds d
+        → is_less (greatest d) (then_key d) ≡ false
+    then_bounded wants bounded d there = go (is_same_decision x d) refl
       where
-        own : is_less (within (suc n) d) (now d) ≡ false
-        own = at_most_onward (now d) (within n d) (within (suc n) d) (bounded d there) (wider n d)
-
         both : (also : Bool) → is_among ds f ≡ also → needs c f d ≡ true
-            → is_less (within (suc n) d) (greater_by (now d) (if also then Some (now f) else None)) ≡ false
+            → is_less (greatest d) (greater_by (now d) (if also then Some (now f) else None)) ≡ false
         both true a wants_d =
             let in_set : Contains ds f = stands_among ds f a in
-            least_bound (now d) (now f) (within (suc n) d) (is_less (now d) (now f)) own
-            (at_most_onward (now f) (within n f) (within (suc n) d) (bounded f in_set) (over_needing n d f there in_set wants_d))
-        both false a wants_d = own
+            least_bound (now d) (now f) (greatest d) (is_less (now d) (now f)) (bounded d there)
+            (at_most_onward (now f) (greatest f) (greatest d) (bounded f in_set) (needed_has_more c ds key d f there in_set wants_d))
+        both false a wants_d = bounded d there
 
         go : (same : Bool) → is_same_decision x d ≡ same
-            → is_less (within (suc n) d) (if same then greater_by (now d) (keys_among ds now f) else now d) ≡ false
+            → is_less (greatest d) (if same then greater_by (now d) (keys_among ds now f) else now d) ≡ false
         go true e = both (is_among ds f) refl (subst (λ (y : Decision). needs c f y ≡ true) (same_decision x d e) wants)
-        go false e = own
+        go false e = bounded d there
 
     then_slots : (slots : List (Option Key)) → leaf_of x < length c.leaves → leaf_of f < length c.leaves → AreKeys (length c.leaves) (keys_among ds now) slots
         → AreKeys (length c.leaves) (keys_among ds then_key) (lent_along slots (lending_link x f))
@@ -124,6 +105,5 @@ module _ (c : Cluster) (ds : List Decision) (key : Decision → Key) where
     then_lent slots low also wants is = record {
       are = then_slots slots low also is.are;
       least = λ d. at_most_onward (key d) (now d) (then_key d) (is.least d) (then_rises d);
-      most = suc is.most;
-      bounded = then_bounded is.most wants is.bounded;
+      bounded = then_bounded wants is.bounded;
     }

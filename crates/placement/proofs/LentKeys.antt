@@ -1,5 +1,5 @@
 -- Keys that are lent along all links, pass after pass, are the effective keys in the end.
-use Rattle.std.proofs.Common.{◌≡◌, ◌<◌, ℕ, suc, zero, Bool, true, false, if◌then◌else◌, Option, Some, None, List, [], ◌∷◌, fold, length, unwrap_or, Contains, inl, inr, refl, sym, ap, subst, ◌∙◌}
+use Rattle.std.proofs.Common.{◌≡◌, ◌<◌, ℕ, suc, zero, ◌||◌, Bool, true, false, if◌then◌else◌, Option, Some, None, List, [], ◌∷◌, fold, length, unwrap_or, Contains, inl, inr, refl, sym, ap, subst, ◌∙◌}
 use Rattle.std.proofs.lemmas.Bool.{eq-eqb}
 use Rattle.lemmas.proofs.Members.{at_head, head_or_rest, in_none, in_rest}
 use Rattle.loops.proofs.Needs.{same_decision}
@@ -10,27 +10,29 @@ use Rattle.cluster_types.specs.Decisions.{Key, is_among, is_less, is_same_decisi
 use Rattle.cluster_types.specs.Valid.{IsValid}
 use Rattle.plan_laws.proofs.MadeOnes.{stands_among}
 use Rattle.placement.specs.Inner.Flags.{slot_of}
-use Rattle.placement.specs.Inner.Lending.{AreKeys, effective_within, slot_key_at, keys_among, lent_along}
+use Rattle.placement.specs.Inner.EffectiveKeys.{effective_in}
+use Rattle.placement.specs.Inner.Lending.{AreKeys, slot_key_at, keys_among, lent_along, needs_within}
 use Rattle.placement.specs.Inner.Links.{lending_link, links_in}
-use Rattle.placement.proofs.EffectiveBounds.{each_within, most_within, own_within, reached_within}
+use Rattle.placement.proofs.EffectiveBounds.{least_of_all, own_at_most}
 use Rattle.placement.proofs.FlagLaws.{same-slot}
 use Rattle.placement.proofs.KeyOrder.{at_most_onward, not_itself, one_key}
 use Rattle.placement.proofs.LastNeeds.{LastNeed, last_need}
 use Rattle.placement.proofs.LinkedNeeds.{Linked, link-there, linked}
 use Rattle.placement.proofs.ReadyFlags.{among-is}
-use Rattle.placement.proofs.ShortNeeds.{short}
+use Rattle.placement.proofs.ShortNeeds.{needs_short}
 use Rattle.placement.proofs.SlotLaws.{kept-is, keys-same}
-use Rattle.placement.proofs.LentAlong.{Lent, Reach, then_follows, then_key, then_lent, then_rises}
+use Rattle.placement.proofs.LentAlong.{Lent, then_follows, then_key, then_lent, then_rises}
 
 module _ (c : Cluster) (ds : List Decision) (key : Decision → Key) where
-  abbrev within : ℕ → Decision → Key
-  within = effective_within c ds key
+  -- each has at least the keys of those that need it through so many needs
+  abbrev Reach : (Decision → Key) → ℕ → Type 0
+  Reach now n = (d e : Decision) → Contains ds d → Contains ds e → needs_within c ds n e d ≡ true → is_less (now d) (key e) ≡ false
 
   -- the keys after so many passes
   pub record Turned (n : ℕ) (slots : List (Option Key)) : Type 0 where
     pub now : Decision → Key
     pub lent : Lent c ds key now slots
-    pub reached : Reach c ds key now n
+    pub reached : Reach now n
 
   -- a pass along links
   module _ (valid : IsValid c) (low : (d : Decision) → Contains ds d → leaf_of d < length c.leaves) where
@@ -75,14 +77,16 @@ module _ (c : Cluster) (ds : List Decision) (key : Decision → Key) where
         }
 
     -- where each decision has at least what those have that need it, all have what they have through one need more
-    reach_more : (now next : Decision → Key) → ((d : Decision) → is_less (next d) (key d) ≡ false)
-        → ((d f : Decision) → Contains ds d → Contains ds f → needs c f d ≡ true → is_less (next d) (now f) ≡ false) → (n : ℕ) → Reach c ds key now n → Reach c ds key next (suc n)
-    reach_more now next own follows n reached d there =
-        most_within c ds key (suc n) d (next d) (own d) (λ e present h.
+    reach_more : (now next : Decision → Key) → ((d : Decision) → is_less (now d) (key d) ≡ false)
+        → ((d f : Decision) → Contains ds d → Contains ds f → needs c f d ≡ true → is_less (next d) (now f) ≡ false) → (n : ℕ) → Reach now n → Reach next (suc n)
+    reach_more now next own follows n reached d e there present h =
         let l : LastNeed c ds n e d = last_need c ds n e d present h in
-        at_most_onward (key e) (now l.via) (next d)
-        (at_most_onward (key e) (within n l.via) (now l.via) (reached_within c ds key n l.via e present (is_same_decision e l.via) refl l.reached) (reached l.via l.among))
-        (follows d l.via there l.among l.wanted))
+        at_most_onward (key e) (now l.via) (next d) (at_last l.via l.among (is_same_decision e l.via) refl l.reached) (follows d l.via there l.among l.wanted)
+      where
+        at_last : (via : Decision) → Contains ds via → (same : Bool) → is_same_decision e via ≡ same → same || needs_within c ds n e via ≡ true
+            → is_less (now via) (key e) ≡ false
+        at_last via among true is on = subst (λ (x : Decision). is_less (now x) (key e) ≡ false) (same_decision e via is) (own e)
+        at_last via among false is on = reached via e among present on
 
     module _ (es : List Edge) (known : (e : Edge) → Contains es e → Contains (links_in c ds) e) (all : (e : Edge) → Contains (links_in c ds) e → Contains es e)
         (n : ℕ) (slots : List (Option Key)) (t : Turned n slots) where
@@ -93,7 +97,7 @@ module _ (c : Cluster) (ds : List Decision) (key : Decision → Key) where
       turned = record {
         now = on.next;
         lent = on.lent;
-        reached = reach_more t.now on.next on.lent.least
+        reached = reach_more t.now on.next t.lent.least
             (λ d f there also wants. on.follows d f (all (lending_link d f) (link-there c valid ds low f d there wants)) also) n t.reached;
       }
 
@@ -114,8 +118,8 @@ module _ (c : Cluster) (ds : List Decision) (key : Decision → Key) where
               ∙ (ap (λ (ss : List (Option Key)). slot_key_at ss d) same
               ∙ (kept-is (length c.leaves) (keys_among ds t.now) slots t.lent.are d (low d there) ∙ has t.now d there)))
 
-          each : (m : ℕ) → Reach c ds key t.now m
-          each zero = λ d there. most_within c ds key 0 d (t.now d) (t.lent.least d) (λ e present h. let f : false ≡ true = h in cc)
+          each : (m : ℕ) → Reach t.now m
+          each zero = λ d e there present h. let f : false ≡ true = h in cc
           each (suc m) =
               reach_more t.now t.now t.lent.least (λ d f there also wants.
               subst (λ (k : Key). is_less k (t.now f) ≡ false) (still d there)
@@ -125,23 +129,19 @@ module _ (c : Cluster) (ds : List Decision) (key : Decision → Key) where
   pub first-turn : (slots : List (Option Key)) → AreKeys (length c.leaves) (keys_among ds key) slots → Turned 0 slots
   first-turn slots are = record {
     now = key;
-    lent = record { are = are; least = λ d. not_itself (key d); most = 0; bounded = λ d there. own_within c ds key 0 d };
-    reached = λ d there. most_within c ds key 0 d (key d) (not_itself (key d)) (λ e present h. let f : false ≡ true = h in cc);
+    lent = record { are = are; least = λ d. not_itself (key d); bounded = λ d there. own_at_most c ds key d };
+    reached = λ d e there present h. let f : false ≡ true = h in cc;
   }
 
   -- and in the end the greatest of those that need it
-  pub all-lent : (slots : List (Option Key)) → Turned (length ds) slots → AreKeys (length c.leaves) (keys_among ds (within (length ds))) slots
-  all-lent slots t = keys-same (length c.leaves) (keys_among ds t.now) slots t.lent.are (keys_among ds (within (length ds))) (λ d low. go d (is_among ds d) refl)
+  pub all-lent : (slots : List (Option Key)) → Turned (length ds) slots → AreKeys (length c.leaves) (keys_among ds (effective_in c ds key)) slots
+  all-lent slots t = keys-same (length c.leaves) (keys_among ds t.now) slots t.lent.are (keys_among ds (effective_in c ds key)) (λ d low. go d (is_among ds d) refl)
     where
-      no_more : (d : Decision) → is_less (within (length ds) d) (within t.lent.most d) ≡ false
-      no_more d =
-          most_within c ds key t.lent.most d (within (length ds) d) (own_within c ds key (length ds) d)
-          (λ e present h. each_within c ds key (length ds) d e present (short c ds d t.lent.most e present h))
-
       go : (d : Decision) (there : Bool) → is_among ds d ≡ there
-          → (if there then Some (t.now d) else None) ≡ (if there then Some (within (length ds) d) else None)
+          → (if there then Some (t.now d) else None) ≡ (if there then Some (effective_in c ds key d) else None)
       go d true e =
           let among = stands_among ds d e in
-          ap Some (one_key (t.now d) (within (length ds) d) (t.reached d among)
-          (at_most_onward (t.now d) (within t.lent.most d) (within (length ds) d) (t.lent.bounded d among) (no_more d)))
+          ap Some (one_key (t.now d) (effective_in c ds key d)
+          (least_of_all c ds key d (t.now d) (t.lent.least d) (λ f present h. t.reached d f among present (needs_short c ds f d present h)))
+          (t.lent.bounded d among))
       go d false e = refl

@@ -1,17 +1,21 @@
--- A decision that needs another through any number of needs does so through no more than there are decisions.
-use Rattle.std.proofs.Common.{arith, ◌≡◌, ◌≤◌, ◌⊎◌, ℕ, suc, zero, Bool, true, false, List, length, count_by, inl, inr, refl, Contains}
-use Rattle.std.proofs.lemmas.Bool.{cases_lt}
+-- A decision that needs another through a chain of needs does so through no more of them than there are decisions.
+use Rattle.std.proofs.Common.{arith, ◌≡◌, ◌≤◌, ◌||◌, ◌⊎◌, ℕ, suc, zero, Bool, true, false, List, length, count_by, inl, inr, refl, Contains}
+use Rattle.std.proofs.lemmas.Bool.{cases_lt, or_left, or_right}
 use Rattle.std.proofs.lemmas.List.Sums.{count_by-le-length}
 use Rattle.lemmas.proofs.Booleans.{one_of}
 use Rattle.lemmas.proofs.Counts.{count_one_more}
+use Rattle.loops.proofs.ComputedChains.{needs_computed}
+use Rattle.loops.proofs.Needs.{is_itself}
+use Rattle.edges.specs.Chains.{link_then, one_link}
 use Rattle.cluster_types.specs.declared.cluster.Cluster.{Cluster}
 use Rattle.cluster_types.specs.declared.placement.Decision.{Decision}
-use Rattle.cluster_types.specs.Decisions.{is_same_decision, needs_through}
+use Rattle.cluster_types.specs.Decisions.{IsNeedLink, NeedsByChain, is_same_decision, needs_through}
+use Rattle.placement.specs.Inner.Lending.{needs_within}
 use Rattle.placement.proofs.LastNeeds.{FirstNeed, by_first, first_need, more_needs}
 
 module _ (c : Cluster) (ds : List Decision) (d : Decision) where
   abbrev reach : ℕ → Decision → Bool
-  reach n e = needs_through c ds n e d
+  reach n e = needs_within c ds n e d
 
   -- one need more finds no other decision
   abbrev Stays : ℕ → Type 0
@@ -63,8 +67,15 @@ module _ (c : Cluster) (ds : List Decision) (d : Decision) where
       go (inl many) = all (reach (length ds) e) refl many
       go (inr stays) = stays e (k, lt, at) h
 
-  pub short : (n : ℕ) (e : Decision) → Contains ds e → reach n e ≡ true → reach (length ds) e ≡ true
-  short zero e there h = cc
-  short (suc n) e there h =
-      let w : FirstNeed c ds n e d = first_need c ds n e d h in
-      shorter (length ds) stays_last n e w (short n w.via w.among) there
+module _ (c : Cluster) (ds : List Decision) where
+  -- e needs f, and f is d or needs it
+  led_by : (e f d : Decision) → Contains ds e → IsNeedLink c ds e f → is_same_decision f d || needs_within c ds (length ds) f d ≡ true
+      → needs_within c ds (length ds) e d ≡ true
+  led_by e f d there l on = stays_last c ds d e there (by_first c ds (length ds) e f d l.there l.needed on)
+
+  chain_within : (e d : Decision) → Contains ds e → NeedsByChain c ds e d → needs_within c ds (length ds) e d ≡ true
+  chain_within e d there (one_link _ _ l) = led_by e d d there l (or_left (is_same_decision d d) _ (is_itself d))
+  chain_within e d there (link_then _ f _ l _ rest) = led_by e f d there l (or_right (is_same_decision f d) _ (chain_within f d l.there rest))
+
+  pub needs_short : (e d : Decision) → Contains ds e → needs_through c ds e d ≡ true → needs_within c ds (length ds) e d ≡ true
+  needs_short e d there h = chain_within e d there ((needs_computed c ds e d).1 h)

@@ -25,7 +25,7 @@ scores_of c es promotions = record {
 abbrev pub score_in_list : List ℤ → ℕ → ℕ → ℕ → ℤ
 score_in_list scores nodes r n = if nat_lt n nodes then slice_index_or scores (r * nodes + n) (pos 0) else pos 0
 
--- the total of a decision on a node
+-- the base of a decision on a node
 abbrev pub score_in : ScoreTable → Decision → ℕ → ℤ
 score_in table (Place r) n = score_in_list table.places table.nodes r n
 score_in table (Promote r) n = score_in_list table.promotes table.nodes r n

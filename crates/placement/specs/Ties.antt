@@ -1,5 +1,4 @@
--- Which leaves must be with a leaf through a chain of ties of bounded length, as a list of marks, one for each leaf (follows from the
--- definition of ties).
+-- Which leaves must be with a leaf through a chain of ties, as a list of marks, one for each leaf (follows from the definition of ties).
 use Rattle.std.specs.Prelude.{◌↔◌, ℕ, Bool, List, length, map, filter, Contains}
 use Rattle.std.specs.List.{range_with_len}
 use Rattle.cluster_types.specs.declared.cluster.Cluster.{Cluster}
@@ -20,6 +19,6 @@ pub record AreTies (c : Cluster) (ties : List Edge) : Type 0 where
   pub exact : (tie : Edge) → Contains ties tie ↔ Contains (ties_of c) tie
 
 module _ (c : Cluster) where
-  -- the leaves that are tied to r by chains of this length at most
-  abbrev pub tied_within : ℕ → ℕ → List Bool
-  tied_within most r = map (λ s. is_tied c most s r) (range_with_len 0 (length c.leaves))
+  -- for each leaf whether it is tied to r
+  abbrev pub tied_leaves : ℕ → List Bool
+  tied_leaves r = map (λ s. is_tied c s r) (range_with_len 0 (length c.leaves))

@@ -45,7 +45,7 @@ pub use pinning::pins;
 pub use placing::{place, placement_of};
 pub use totals::adding::{both, copy_of};
 pub use totals::fitting::leaves_a_node;
-pub use totals::laws::scores_are_totals;
+pub use totals::laws::scores_are_bases;
 pub use totals::locations::{nodes_of, unnamed_nodes};
 pub use totals::own::{is_active, is_banned, stickiness_of};
 pub use totals::own_rows::OwnRows;

@@ -12,7 +12,7 @@ use Rattle.cluster_types.specs.declared.leaf.Role.TheVariants as role
 use Rattle.cluster_types.specs.Fields.{copies, is_promotable}
 use Rattle.cluster_types.specs.NeededActions.{Needed}
 use Rattle.cluster_types.specs.Numbers.{Link, is_place_before, is_earlier, link, links, action_place, rank, step_of}
-use Rattle.cluster_types.specs.Precedence.{LeafOnNode, both, change_cell, comes_first_in_cell, demotes_first, fences_first, gives_any, is_migrating, is_one_cell, is_one_leaf, is_some_cell, op_cell, probe_cell, probes_first, stops_first}
+use Rattle.cluster_types.specs.Precedence.{LeafOnNode, both, step_cell, comes_first_in_cell, demotes_first, fences_first, gives_any, is_migrating, is_one_cell, is_one_leaf, is_some_cell, op_cell, probe_cell, probes_first, stops_first}
 use Rattle.cluster_types.specs.Tables.{Targets, holds_role}
 use Rattle.plan_laws.proofs.Links.{link_of_leaf}
 use Rattle.plan_laws.proofs.NeededActions.{bounds_of_cell, gets_step, promotable_by_demote, target_by_promote}
@@ -105,7 +105,7 @@ module _ (c : Cluster) (es : List Event) (targets : Targets) (actions : List Act
       (in_rest (link op.Demote s op.Stop s) (link op.Start s op.Promote s ∷ []) (link op.Start s op.Promote s) (at_head (link op.Start s op.Promote s) [] (link op.Start s op.Promote s) refl))) in
       gives_by_rank _ _ r s n m 0 0 (subst (λ v. nat_lt (rank c (step_of op.Start v)) (rank c (step_of op.Promote s)) ≡ true) (sym same) (lt-ltb _ _ up))
 
-  change_monitor : (x y : Action) (a : LeafOnNode) (s m : ℕ) → change_cell x ≡ Some a → OfCell op.Monitor y s m → is_earlier c actions x y ≡ true
+  change_monitor : (x y : Action) (a : LeafOnNode) (s m : ℕ) → step_cell x ≡ Some a → OfCell op.Monitor y s m → is_earlier c actions x y ≡ true
   change_monitor (Operation op.Start r n i role) _ a _ _ h (of_cell s m j other) = refl
   change_monitor (Operation op.Stop r n i role) _ a _ _ h (of_cell s m j other) = go (is_migrating actions r) where
     go : (b : Bool) → is_place_before (stop_place c actions r n b) (action_place c actions (Operation op.Monitor s m j other)) ≡ true
@@ -125,11 +125,11 @@ module _ (c : Cluster) (es : List Event) (targets : Targets) (actions : List Act
   pub in_cell_upward : (x y : Action) → Contains actions x → Contains actions y → comes_first_in_cell x y ≡ true → is_earlier c actions x y ≡ true
   in_cell_upward x y inx iny h =
       either (both is_one_cell (op_cell op.Demote x) (op_cell op.Stop y) || both is_one_cell (op_cell op.Start x) (op_cell op.Promote y))
-      (both is_one_cell (change_cell x) (op_cell op.Monitor y)) h
+      (both is_one_cell (step_cell x) (op_cell op.Monitor y)) h
       (λ in_cell. either (both is_one_cell (op_cell op.Demote x) (op_cell op.Stop y)) (both is_one_cell (op_cell op.Start x) (op_cell op.Promote y)) in_cell
       (λ k. let b = both_there is_one_cell (op_cell op.Demote x) (op_cell op.Stop y) k in
       demote_stop x y b.one.leaf b.one.node b.other.leaf b.other.node (one_leaf b.one b.other b.passes) inx (cell_there op.Demote x b.one b.is_one) (cell_there op.Stop y b.other b.is_other))
       (λ k. let b = both_there is_one_cell (op_cell op.Start x) (op_cell op.Promote y) k in
       start_promote x y b.one.leaf b.one.node b.other.leaf b.other.node (one_leaf b.one b.other b.passes) iny (cell_there op.Start x b.one b.is_one) (cell_there op.Promote y b.other b.is_other)))
-      (λ k. let b = both_there is_one_cell (change_cell x) (op_cell op.Monitor y) k in
+      (λ k. let b = both_there is_one_cell (step_cell x) (op_cell op.Monitor y) k in
       change_monitor x y b.one b.other.leaf b.other.node b.is_one (cell_there op.Monitor y b.other b.is_other))

@@ -21,11 +21,12 @@ use Rattle.cluster_types.specs.Decisions.{Decides, is_among, is_same_decision}
 use Rattle.cluster_types.specs.Failures.{is_fail_stopped}
 use Rattle.cluster_types.specs.Fields.{copies, target_role_of}
 use Rattle.cluster_types.specs.Pins.{is_pinned, pinned_targets}
-use Rattle.cluster_types.specs.Reasons.{HasReason, is_chosen_nowhere, plain_reason}
+use Rattle.cluster_types.specs.Reasons.{HasReason, is_chosen_nowhere, plain_reason, leaf_reason}
 use Rattle.cluster_types.specs.Plans.{IsPlaced}
 use Rattle.cluster_types.specs.Rights.{may_start}
 use Rattle.cluster_types.specs.Tables.{Targets, holds_role, is_somewhere, targets_of}
 use Rattle.cluster_types.specs.Valid.{IsValid}
+use Rattle.cluster_types.proofs.LeafReasons.{reason_there, reason_told}
 use Rattle.plan_laws.specs.Placing.{NoNodeFits}
 use Rattle.plan_laws.proofs.FewChosen.{FirstCandidate, first_candidate}
 use Rattle.plan_laws.proofs.Following.{Follow, First, first_of_rest, follow_later, follow_of}
@@ -161,11 +162,12 @@ module _ (c : Cluster) (es : List Event) (ps : List Promotion) where
     no_node_fits = record { before = s.before; later = s.later; split = s.split; none = none_there }
 
   -- the reason in a placement
-  pub reason_no_node : (placed : Placed) (is : IsPlaced c es ps placed) (r : ℕ) → IsValid c → slice_get placed.none r ≡ Some (Some none.NoNode)
+  pub reason_no_node : (placed : Placed) (is : IsPlaced c es ps placed) (r : ℕ) → IsValid c → leaf_reason placed.none r ≡ Some none.NoNode
       → NoNodeFits c es ps is.decisions r
   reason_no_node placed is r valid reason =
+      let there : slice_get placed.none r ≡ Some (Some none.NoNode) = reason_there (slice_get placed.none r) none.NoNode reason in
       let told : HasReason c es (after_decisions c es ps (pinned_targets c es) is.decisions) (targets_of placed.table) r (Some none.NoNode)
-      = is.reasons r (Some none.NoNode) reason in
-      let lt = slice_get_within placed.none r (Some none.NoNode) reason in
+      = reason_told c es ps placed is r (Some none.NoNode) there in
+      let lt = slice_get_within placed.none r (Some none.NoNode) there in
       let size = is.leaves in
       no_node_fits valid is.decisions is.in_order r (omega arith) told.0 told.2

@@ -16,7 +16,9 @@ use Rattle.cluster_types.specs.Precedence.{as_earlier, as_later, inverse, is_inv
 use Rattle.cluster_types.specs.Tables.{Targets, is_in_scope}
 use Rattle.cluster_types.specs.Valid.{IsValidOrder, MayHaveWord}
 use Rattle.cluster_types.proofs.OpLaws.{stop_takes}
-use Rattle.plan_laws.proofs.Links.{inverse_by_word, inverse_link, link_of_order, own_link, step_by_word, taken_link, taker_by_word, turned_link}
+use Rattle.cluster_types.specs.Precedes.{PutsFirst, forth, back, turned}
+use Rattle.cluster_types.proofs.OrderLinks.{link_of}
+use Rattle.plan_laws.proofs.Links.{inverse_by_word, link_of_order, step_by_word, taker_by_word}
 use Rattle.plan_laws.proofs.NeededActions.{found, Migrant, disturbed_by, is_monitor, migrant_disturbed, migrates_by_sent, migrates_by_taken, migrating}
 use Rattle.plan_laws.proofs.OrderWords.{inverse_is_step, not_start, taker_takes, turned_up, word_is_step}
 use Rattle.plan_laws.proofs.Phases.{Rightly, rightly_upward}
@@ -53,14 +55,14 @@ module _ (c : Cluster) (es : List Event) (targets : Targets) (actions : List Act
 
   module _ (o : Order) (present : Contains c.orders o) (valid : IsValidOrder c o) (kind : is_serialize o.kind ≡ false) where
     -- a link of the order that counts
-    rises : (p q : Op) (r s : ℕ) → is_step c (step_of p r) ≡ true → is_step c (step_of q s) ≡ true → Contains (order_links o) (link p r q s)
+    rises : (p q : Op) (r s : ℕ) → is_step c (step_of p r) ≡ true → is_step c (step_of q s) ≡ true → PutsFirst o p r q s
         → is_within_phase (link p r q s) ≡ true → rank c (step_of p r) < rank c (step_of q s)
-    rises p q r s a b k w = rise (link p r q s) (link_of_order c o (link p r q s) present w a b k)
+    rises p q r s a b k w = rise (link p r q s) (link_of_order c o (link p r q s) present w a b (link_of o p q r s kind k))
 
     -- the first migrates, by a word that isn't start: the then isn't disturbed
     first_moves : is_migrating actions o.first ≡ true → o.first_op ≢ op.Start → GetsStepAnywhere c es targets o.then_leaf → ⊥
     first_moves h other d =
-        elim (((migrating c es targets actions needed o.first h).migrates.orders o present).0 refl) [
+        elim (((migrating c es targets actions needed o.first h).migrates.orders o present).as_first refl) [
           | inl k ↦ other k.1
           | inr k ↦ k d
         ]
@@ -68,7 +70,7 @@ module _ (c : Cluster) (es : List Event) (targets : Targets) (actions : List Act
     -- the then migrates, and is another leaf: the first isn't disturbed
     then_moves : is_migrating actions o.then_leaf ≡ true → o.first ≢ o.then_leaf → GetsStepAnywhere c es targets o.first → ⊥
     then_moves h other d =
-        ((migrating c es targets actions needed o.then_leaf h).migrates.orders o present).1 refl other d
+        ((migrating c es targets actions needed o.then_leaf h).migrates.orders o present).as_then refl other d
 
     same_or_not : {X : Type 0} → (o.first ≡ o.then_leaf → X) → (o.first ≢ o.then_leaf → X) → X
     same_or_not {X} f g = go (o.first == o.then_leaf) refl
@@ -84,7 +86,7 @@ module _ (c : Cluster) (es : List Event) (targets : Targets) (actions : List Act
     own_self : (p : Op) → o.first_op ≡ p → is_giving p ≡ true → is_migrating actions o.then_leaf ≡ true → o.then_op ≡ op.Start → o.first ≡ o.then_leaf → ⊥
     own_self op.Start e up h q same =
         no_self o.first_op o.then_op o.first o.then_leaf (rw e (sym q)) same
-        (rises o.first_op o.then_op o.first o.then_leaf (step_by_word c o.first o.first_op valid.first) (step_by_word c o.then_leaf o.then_op valid.later) (own_link o kind)
+        (rises o.first_op o.then_op o.first o.then_leaf (step_by_word c o.first o.first_op valid.first) (step_by_word c o.then_leaf o.then_op valid.later) forth
         (rw e (rw q refl)))
     own_self op.Promote e up h q same =
         let one : Migrant c es targets o.then_leaf = migrating c es targets actions needed o.then_leaf h in
@@ -96,7 +98,7 @@ module _ (c : Cluster) (es : List Event) (targets : Targets) (actions : List Act
 
     own_rightly : GetsStepAnywhere c es targets o.first → GetsStepAnywhere c es targets o.then_leaf → Rightly c actions o.first_op o.first o.then_op o.then_leaf
     own_rightly d later_d = record {
-      linked = λ w. lt-ltb (rank c (step_of o.first_op o.first)) (rank c (step_of o.then_op o.then_leaf)) (rises o.first_op o.then_op o.first o.then_leaf (step_by_word c o.first o.first_op valid.first) (step_by_word c o.then_leaf o.then_op valid.later) (own_link o kind) w);
+      linked = λ w. lt-ltb (rank c (step_of o.first_op o.first)) (rank c (step_of o.then_op o.then_leaf)) (rises o.first_op o.then_op o.first o.then_leaf (step_by_word c o.first o.first_op valid.first) (step_by_word c o.then_leaf o.then_op valid.later) forth w);
       rising = valid.upward;
       first_stays = λ h e. first_moves h (λ k. let f : op.Stop ≡ op.Start = cc in cc) later_d;
       then_stays = λ h up q. same_or_not (own_self o.first_op refl up h q) (λ other. then_moves h other d);
@@ -108,7 +110,7 @@ module _ (c : Cluster) (es : List Event) (targets : Targets) (actions : List Act
           → is_within_phase (link p o.then_leaf q o.first) ≡ true → rank c (step_of p o.then_leaf) < rank c (step_of q o.first)
       taken_rises p q up inp inq =
           rises p q o.then_leaf o.first (taker_by_word c o.then_leaf o.then_op p valid.later inp) (taker_by_word c o.first o.first_op q valid.first inq)
-          (inverse_link o (link p o.then_leaf q o.first) kind both_ways (taken_link o p q up inp inq))
+          (back p q both_ways up inp inq)
 
       taken_rightly : (p q : Op) → is_giving o.first_op && is_giving o.then_op ≡ true → Contains (takers o.then_op) p → Contains (takers o.first_op) q
           → GetsStepAnywhere c es targets o.then_leaf → GetsStepAnywhere c es targets o.first → Rightly c actions p o.then_leaf q o.first
@@ -138,7 +140,7 @@ module _ (c : Cluster) (es : List Event) (targets : Targets) (actions : List Act
           record {
             linked = λ w. lt-ltb (rank c (step_of (inverse o.then_op) o.then_leaf)) (rank c (step_of (inverse o.first_op) o.first))
                 (rises (inverse o.then_op) (inverse o.first_op) o.then_leaf o.first (inverse_by_word c o.then_leaf o.then_op valid.later) (inverse_by_word c o.first o.first_op valid.first)
-                (inverse_link o (link (inverse o.then_op) o.then_leaf (inverse o.first_op) o.first) kind both_ways (turned_link o e)) w);
+                (turned both_ways e) w);
             rising = λ h. turned_up o.first_op (word_is_step c o.first o.first_op valid.first) (first_takes e);
             first_stays = λ h q. same_or_not (λ same. first_moves (subst (λ v. is_migrating actions v ≡ true) (sym same) h) other d) (λ apart. then_moves h apart first_d);
             then_stays = λ h up q. first_moves h other d;
@@ -171,4 +173,4 @@ module _ (c : Cluster) (es : List Event) (targets : Targets) (actions : List Act
       either (is_ordered_pair actions o o.first_op o.first o.then_op o.then_leaf x y) (o.symmetrical && is_inverse_pair actions o x y) one
       (λ k. pair_upward o o.first_op o.then_op o.first o.then_leaf x y inx iny (word_is_step c o.first o.first_op valid.first) (word_is_step c o.then_leaf o.then_op valid.later)
       (own_rightly o present valid kind) k)
-      (λ k. let (both_ways, turned) = and_parts o.symmetrical (is_inverse_pair actions o x y) k in inverse_upward o present valid kind both_ways x y inx iny turned)
+      (λ k. let (both_ways, inverted) = and_parts o.symmetrical (is_inverse_pair actions o x y) k in inverse_upward o present valid kind both_ways x y inx iny inverted)

@@ -36,6 +36,6 @@ module _ (c : Cluster) (es : List Event) (targets : Targets) (actions : List Act
       let (separate, one) = and_parts (is_separation col) _ h in
       either (is_parted col.dependent col.dependent_role col.primary col.primary_role x y) (is_parted col.primary col.primary_role col.dependent col.dependent_role x y) one
       (parted_upward col.dependent col.primary col.dependent_role col.primary_role x y iny
-      (λ m k. ((migrating c es targets actions needed col.dependent m).migrates.colocations col present separate).0 refl (disturbed col.primary k)))
+      (λ m k. ((migrating c es targets actions needed col.dependent m).migrates.colocations col present).as_dependent separate refl (disturbed col.primary k)))
       (parted_upward col.primary col.dependent col.primary_role col.dependent_role x y iny
-      (λ m k. ((migrating c es targets actions needed col.primary m).migrates.colocations col present separate).1 refl (disturbed col.dependent k)))
+      (λ m k. ((migrating c es targets actions needed col.primary m).migrates.colocations col present).as_primary separate refl (disturbed col.dependent k)))

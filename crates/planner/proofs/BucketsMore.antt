@@ -10,7 +10,7 @@ use Rattle.cluster_types.specs.declared.cluster.Cluster.{Cluster}
 use Rattle.cluster_types.specs.declared.journal.Action.{Action}
 use Rattle.cluster_types.specs.declared.journal.Action.TheVariants.{Fence, Probe, Operation, MigrateTo, MigrateFrom}
 use Rattle.cluster_types.specs.declared.leaf.Op.TheVariants as op
-use Rattle.cluster_types.specs.Precedence.{change_cell}
+use Rattle.cluster_types.specs.Precedence.{step_cell}
 use Rattle.planner.specs.Inner.Chains.{changed_node, is_at, changed_node_at}
 use Rattle.planner.specs.Inner.Index.{with_place}
 use Rattle.planner.specs.ActionNames.{IsActionWithin}
@@ -45,7 +45,7 @@ buckets_more key nodes buckets more xs i d v l long at inside are e m within =
     ∙ sym (ap (filter (λ j. is_at m (key j))) (take_more xs i d l) ∙ filter_last (λ j. is_at m (key j)) (take i xs) (get_or xs i d))))
 
 -- a cell that an action changes is on a node of the cluster
-changed_within : (c : Cluster) (a : Action) → IsActionWithin c a → IfSome (changed_node (change_cell a)) (λ m. m < length c.nodes)
+changed_within : (c : Cluster) (a : Action) → IsActionWithin c a → IfSome (changed_node (step_cell a)) (λ m. m < length c.nodes)
 changed_within c (Fence n) h = tt
 changed_within c (Probe r n) h = tt
 changed_within c (Operation op.Start r n i role) h = h.1
@@ -61,5 +61,5 @@ pub node_within : (c : Cluster) (actions : List Action) → ((a : Action) → Co
 node_within c actions inside place v l e =
     let d = Fence 0 in
     let at = slice_get-get_or actions place d l in
-    subst (λ w. IfSome w (λ m. m < length c.nodes)) (sym (e ∙ ap (λ w. option_map_or (λ a. changed_node (change_cell a)) w None) at))
+    subst (λ w. IfSome w (λ m. m < length c.nodes)) (sym (e ∙ ap (λ w. option_map_or (λ a. changed_node (step_cell a)) w None) at))
     (changed_within c (get_or actions place d) (inside (get_or actions place d) (Contains-get_or actions place d l)))

@@ -4,7 +4,7 @@ use Rattle.std.specs.List.{slice_get}
 use Rattle.std.specs.Option.{option_map_or}
 use Rattle.std.proofs.lemmas.Bool.{eqb-true}
 use Rattle.cluster_types.specs.declared.journal.Action.{Action}
-use Rattle.cluster_types.specs.Precedence.{LeafOnNode, cell_of, change_cell}
+use Rattle.cluster_types.specs.Precedence.{LeafOnNode, cell_of, step_cell}
 use Rattle.planner.specs.Chains.{changes_at, is_cell_on, InChain, StandsBefore, here, later}
 use Rattle.planner.specs.Inner.Chains.{changed_node, is_at, changed_node_at}
 use Rattle.planner.specs.Joins.{in_leaf}
@@ -61,9 +61,9 @@ changes_on r m None h = cc
 pub changes_node : (actions : List Action) (r m i : ℕ) → changes_at actions r true m i ≡ true → is_at m (changed_node_at actions i) ≡ true
 changes_node actions r m i h = on (slice_get actions i) h
   where
-    on : (v : Option Action) → option_map_or (λ a. is_cell_on m (in_leaf r true (change_cell a))) v false ≡ true
-        → is_at m (option_map_or (λ a. changed_node (change_cell a)) v None) ≡ true
-    on (Some a) e = changes_on r m (change_cell a) e
+    on : (v : Option Action) → option_map_or (λ a. is_cell_on m (in_leaf r true (step_cell a))) v false ≡ true
+        → is_at m (option_map_or (λ a. changed_node (step_cell a)) v None) ≡ true
+    on (Some a) e = changes_on r m (step_cell a) e
     on None e = cc
 
 -- chains for all nodes are for node 0
@@ -78,8 +78,8 @@ zero_on r m None h = cc
 pub changes_zero : (actions : List Action) (r m i : ℕ) → changes_at actions r false m i ≡ true → m ≡ 0
 changes_zero actions r m i h = on (slice_get actions i) h
   where
-    on : (v : Option Action) → option_map_or (λ a. is_cell_on m (in_leaf r false (change_cell a))) v false ≡ true → m ≡ 0
-    on (Some a) e = zero_on r m (change_cell a) e
+    on : (v : Option Action) → option_map_or (λ a. is_cell_on m (in_leaf r false (step_cell a))) v false ≡ true → m ≡ 0
+    on (Some a) e = zero_on r m (step_cell a) e
     on None e = cc
 
 -- how many positions are at the first so many nodes

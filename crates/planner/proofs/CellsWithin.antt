@@ -6,7 +6,7 @@ use Rattle.cluster_types.specs.declared.journal.Action.TheVariants.{Fence, Probe
 use Rattle.cluster_types.specs.declared.leaf.Op.{Op}
 use Rattle.cluster_types.specs.declared.leaf.Op.TheVariants as op
 use Rattle.cluster_types.specs.Fields.{copies}
-use Rattle.cluster_types.specs.Precedence.{LeafOnNode, cell_of, change_cell, gives_any, is_same_op, op_cell, probe_cell, start_cell}
+use Rattle.cluster_types.specs.Precedence.{LeafOnNode, cell_of, step_cell, gives_any, is_same_op, op_cell, probe_cell, start_cell}
 use Rattle.planner.specs.Joins.{alone, before_monitor, before_stop, by_leaf, fence_cell, in_leaf, send_cell, take_cell, take_in_cell, same_join_cell}
 use Rattle.planner.specs.Inner.Rooms.{nodes_if}
 use Rattle.planner.specs.ActionNames.{IsActionWithin}
@@ -54,7 +54,7 @@ module _ (c : Cluster) where
   gives_here (MigrateTo r s t) h = (h.0, h.2)
   gives_here (MigrateFrom r s t) h = tt
 
-  pub change_here : (a : Action) → IsActionWithin c a → Here (change_cell a)
+  pub change_here : (a : Action) → IsActionWithin c a → Here (step_cell a)
   change_here (Fence n) h = tt
   change_here (Probe r n) h = tt
   change_here (Operation op.Start r n i role) h = h

@@ -9,7 +9,7 @@ use Rattle.std.proofs.lemmas.List.Sums.{sum_by-cons}
 use Rattle.edges.specs.declared.edge.Edge.{Edge}
 use Rattle.cluster_types.specs.declared.journal.Action.{Action}
 use Rattle.cluster_types.specs.declared.rules.Order.{Order}
-use Rattle.cluster_types.specs.Precedence.{LeafOnNode, cell_of, change_cell}
+use Rattle.cluster_types.specs.Precedence.{LeafOnNode, cell_of, step_cell}
 use Rattle.planner.specs.Chains.{IsChained, changes_at, is_cell_on, InChain}
 use Rattle.planner.specs.Inner.Gates.{chain_edges, last_gate}
 use Rattle.planner.specs.Inner.Groups.{AddsGroup, IsGroup}
@@ -32,9 +32,9 @@ apart_on r s local m (Some a) d h k = on (a.leaf == r) (a.leaf == s) refl refl h
     on false q e f h k = cc
 apart_on r s local m None d h k = cc
 
-apart_at : (r s : ℕ) (local : Bool) (m : ℕ) (v : Option Action) → (r == s) ≡ false → option_map_or (λ a. is_cell_on m (in_leaf r local (change_cell a))) v false ≡ true
-    → option_map_or (λ a. is_cell_on m (in_leaf s local (change_cell a))) v false ≡ true → ⊥
-apart_at r s local m (Some a) d h k = apart_on r s local m (change_cell a) d h k
+apart_at : (r s : ℕ) (local : Bool) (m : ℕ) (v : Option Action) → (r == s) ≡ false → option_map_or (λ a. is_cell_on m (in_leaf r local (step_cell a))) v false ≡ true
+    → option_map_or (λ a. is_cell_on m (in_leaf s local (step_cell a))) v false ≡ true → ⊥
+apart_at r s local m (Some a) d h k = apart_on r s local m (step_cell a) d h k
 apart_at r s local m None d h k = cc
 
 differ_test : (r s : ℕ) → (r ≡ s → ⊥) → (r == s) ≡ false

@@ -2,7 +2,8 @@
 use Rattle.std.proofs.Common.{arith, ◌≡◌, ◌<◌, ◌≤◌, ◌+◌, inl, inr, ℕ, Bool, true, false, List, ◌++◌, Contains, refl, sym, subst}
 use Rattle.std.proofs.lemmas.List.Elements.{Contains-append_cases, Contains-append_left, Contains-append_right}
 use Rattle.edges.specs.declared.edge.Edge.{Edge}
-use Rattle.cluster_types.specs.Graphs.{LeadsByGates, direct, through}
+use Rattle.edges.specs.Chains.{link_then, linked, one_link}
+use Rattle.cluster_types.specs.Graphs.{LeadsByGates}
 use Rattle.cluster_types.proofs.GateGroups.{more_edges, own_gate}
 use Rattle.planner.specs.Inner.Gates.{chain_edges, chain_step, edge, next_gate, then_step}
 use Rattle.planner.proofs.ChainEdges.{IsChainEdge, IsHeadEdge, to_then, into, onward, chain_edge, has_first, has_then, is_head, next_is, next_of, next_same}
@@ -41,18 +42,18 @@ module _ (actions : ℕ) (is_first is_then : ℕ → Bool) where
 
     -- from a later gate the rest of the chain alone leads on
     from_later : (x y : ℕ) → LeadsByGates actions whole x y → from < x → LeadsByGates actions tail x y
-    from_later _ _ (direct e c) l =
+    from_later _ _ (one_link _ _ (linked e c)) l =
         elim (Contains-append_cases (head from place) tail e c) [
           | inl h ↦ not_head e (is_head actions is_first is_then from place e h) l
-          | inr h ↦ direct e h
+          | inr h ↦ one_link _ _ (linked e h)
         ]
-    from_later _ _ (through e y c g rest) l =
+    from_later _ _ (link_then _ _ y (linked e c) g rest) l =
         elim (Contains-append_cases (head from place) tail e c) [
           | inl h ↦ not_head e (is_head actions is_first is_then from place e h) l
           | inr h ↦ (
               let k = own_gate actions (next + 1) e.after (tail_edge e h).after g in
               let n = next_of actions is_first is_then from place in
-              through e y h g (from_later e.after y rest (omega arith)))
+              link_then _ _ y (linked e h) g (from_later e.after y rest (omega arith)))
         ]
 
     -- what leads on within the rest
@@ -60,7 +61,7 @@ module _ (actions : ℕ) (is_first is_then : ℕ → Bool) where
     within_tail e y h g rest =
         let k = own_gate actions (next + 1) e.after (tail_edge e h).after g in
         let n = next_of actions is_first is_then from place in
-        through e y h g (from_later e.after y rest (omega arith))
+        link_then _ _ y (linked e h) g (from_later e.after y rest (omega arith))
 
     -- from the first gate: to the position itself, or on from the next gate
     pub data FromStart (y : ℕ) : Type 0 where
@@ -89,12 +90,12 @@ module _ (actions : ℕ) (is_first is_then : ℕ → Bool) where
         omega arith
 
     pub from_start : (x y : ℕ) → LeadsByGates actions whole x y → x ≡ from → y < actions → FromStart y
-    from_start _ _ (direct e c) q l =
+    from_start _ _ (one_link _ _ (linked e c)) q l =
         elim (Contains-append_cases (head from place) tail e c) [
           | inl h ↦ start_head e (is_head actions is_first is_then from place e h) q l
-          | inr h ↦ onwards (subst (λ v. LeadsByGates actions tail v e.after) (same_gate e h q) (direct e h))
+          | inr h ↦ onwards (subst (λ v. LeadsByGates actions tail v e.after) (same_gate e h q) (one_link _ _ (linked e h)))
         ]
-    from_start _ _ (through e y c g rest) q l =
+    from_start _ _ (link_then _ _ y (linked e c) g rest) q l =
         elim (Contains-append_cases (head from place) tail e c) [
           | inl h ↦ start_through e y (is_head actions is_first is_then from place e h) q g rest
           | inr h ↦ onwards (subst (λ v. LeadsByGates actions tail v y) (same_gate e h q) (within_tail e y h g rest))
@@ -117,12 +118,12 @@ module _ (actions : ℕ) (is_first is_then : ℕ → Bool) where
     action_direct _ (onward h) l m = absurd (omega arith)
 
     pub from_action : (x y : ℕ) → LeadsByGates actions whole x y → x < actions → y < actions → FromAction x y
-    from_action _ _ (direct e c) l m =
+    from_action _ _ (one_link _ _ (linked e c)) l m =
         elim (Contains-append_cases (head from place) tail e c) [
           | inl h ↦ action_direct e (is_head actions is_first is_then from place e h) l m
-          | inr h ↦ only_rest (direct e h)
+          | inr h ↦ only_rest (one_link _ _ (linked e h))
         ]
-    from_action _ _ (through e y c g rest) l m =
+    from_action _ _ (link_then _ _ y (linked e c) g rest) l m =
         elim (Contains-append_cases (head from place) tail e c) [
           | inl h ↦ action_through e y (is_head actions is_first is_then from place e h) l g rest
           | inr h ↦ only_rest (within_tail e y h g rest)
@@ -130,11 +131,11 @@ module _ (actions : ℕ) (is_first is_then : ℕ → Bool) where
 
     -- and back
     pub to_place : is_then place ≡ true → LeadsByGates actions whole from place
-    to_place h = direct (edge from place) (Contains-append_left (head from place) tail (edge from place) (has_then actions is_first is_then from place h))
+    to_place h = one_link _ _ (linked (edge from place) (Contains-append_left (head from place) tail (edge from place) (has_then actions is_first is_then from place h)))
 
     first_on : is_first place ≡ true → (y : ℕ) → LeadsByGates actions tail next y → LeadsByGates actions whole from y
     first_on h y k =
-        through (edge from (from + 1)) y (Contains-append_left (head from place) tail (edge from (from + 1)) (has_first actions is_first is_then from place h).1) (omega arith)
+        link_then _ _ y (linked (edge from (from + 1)) (Contains-append_left (head from place) tail (edge from (from + 1)) (has_first actions is_first is_then from place h).1)) (omega arith)
         (subst (λ v. LeadsByGates actions whole v y) (next_gate_of h) (in_tail next y k))
 
     pub start_on : (y : ℕ) → LeadsByGates actions tail next y → LeadsByGates actions whole from y
@@ -146,5 +147,5 @@ module _ (actions : ℕ) (is_first is_then : ℕ → Bool) where
 
     pub action_on : is_first place ≡ true → (y : ℕ) → LeadsByGates actions tail next y → LeadsByGates actions whole place y
     action_on h y k =
-        through (edge place (from + 1)) y (Contains-append_left (head from place) tail (edge place (from + 1)) (has_first actions is_first is_then from place h).0) (omega arith)
+        link_then _ _ y (linked (edge place (from + 1)) (Contains-append_left (head from place) tail (edge place (from + 1)) (has_first actions is_first is_then from place h).0)) (omega arith)
         (subst (λ v. LeadsByGates actions whole v y) (next_gate_of h) (in_tail next y k))

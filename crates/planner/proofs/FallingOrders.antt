@@ -10,9 +10,11 @@ use Rattle.cluster_types.specs.Numbers.{StepsHaveNoLoop, Link, inverse_links, le
 use Rattle.cluster_types.specs.Precedence.{is_serialize, is_giving, takers}
 use Rattle.loops.specs.Inner.Edges.{counts_link}
 use Rattle.loops.specs.FirstLoops.{AllOrder}
+use Rattle.cluster_types.specs.Precedes.{back}
 use Rattle.cluster_types.proofs.OpLaws.{stop_takes}
+use Rattle.cluster_types.proofs.OrderLinks.{link_of}
 use Rattle.lemmas.proofs.Members.{head_or_rest, in_filter, in_flat, in_map, in_rest}
-use Rattle.loops.proofs.OneRanking.{rank_rises}
+use Rattle.loops.proofs.RankChains.{rank_rises}
 use Rattle.planner.specs.CycledCells.{FallByRank, NoneComesBack, is_cycling}
 use Rattle.planner.proofs.OrderWords.{Cycles, cycles_of}
 
@@ -20,28 +22,11 @@ abbrev stops_link : Order → Link
 stops_link o = link Stop o.then_leaf Stop o.first
 
 module _ (c : Cluster) (o : Order) (k : Cycles o) where
-  among_inverse : Contains (inverse_links o) (stops_link o)
-  among_inverse = on (is_giving o.first_op && is_giving o.then_op) (and_from (is_giving o.first_op) _ k.first_up k.then_up) where
-    taken : Contains (flat_map (λ p. map (λ q. link p o.then_leaf q o.first) (takers o.first_op)) (takers o.then_op)) (stops_link o)
-    taken =
-        in_flat (λ p. map (λ q. link p o.then_leaf q o.first) (takers o.first_op)) (takers o.then_op) Stop (stops_link o)
-        (stop_takes o.then_op k.then_up)
-        (in_map (λ q. link Stop o.then_leaf q o.first) (takers o.first_op) Stop (stop_takes o.first_op k.first_up))
-
-    on : (b : Bool) → b ≡ true → Contains (cond b (flat_map (λ p. map (λ q. link p o.then_leaf q o.first) (takers o.first_op)) (takers o.then_op))
-        (link (Rattle.cluster_types.specs.Precedence.inverse o.then_op) o.then_leaf (Rattle.cluster_types.specs.Precedence.inverse o.first_op) o.first ∷ []))
-        (stops_link o)
-    on true h = taken
-    on false h = cc
-
-  of_kind : (s : Bool) (b : Bool) → s ≡ false → b ≡ true
-      → Contains (cond s [] (link o.first_op o.first o.then_op o.then_leaf ∷ cond b (inverse_links o) [])) (stops_link o)
-  of_kind true b e h = cc
-  of_kind false true e h = in_rest (link o.first_op o.first o.then_op o.then_leaf) (inverse_links o) (stops_link o) among_inverse
-  of_kind false false e h = cc
-
   among_order : Contains (order_links o) (stops_link o)
-  among_order = of_kind (is_serialize o.kind) o.symmetrical (ap is_serialize k.mandatory) k.both_ways
+  among_order =
+      link_of o Stop Stop o.then_leaf o.first (ap is_serialize k.mandatory)
+      (back Stop Stop k.both_ways (and_from (is_giving o.first_op) (is_giving o.then_op) k.first_up k.then_up) (stop_takes o.then_op k.then_up)
+      (stop_takes o.first_op k.first_up))
 
   pub among_links : Contains c.orders o → Contains (links c) (stops_link o)
   among_links h =

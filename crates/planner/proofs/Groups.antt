@@ -2,7 +2,8 @@
 use Rattle.std.proofs.Common.{arith, ◌<◌, ◌≤◌, ◌⊎◌, inl, inr, ℕ, List, [], ◌++◌, Contains}
 use Rattle.std.proofs.lemmas.List.Elements.{Contains-append_cases}
 use Rattle.edges.specs.declared.edge.Edge.{Edge}
-use Rattle.cluster_types.specs.Graphs.{LeadsByGates, direct, through}
+use Rattle.edges.specs.Chains.{link_then, linked, one_link}
+use Rattle.cluster_types.specs.Graphs.{LeadsByGates}
 use Rattle.planner.specs.Inner.Groups.{IsGroup, IsOwnEnd}
 use Rattle.cluster_types.proofs.GateGroups.{IsOwn, action, gate, one_group, of_old, of_more}
 
@@ -21,8 +22,8 @@ pub ends_own : (actions from : ℕ) (e : Edge) → IsOwnEnd actions from e.befor
 ends_own actions from e (h, k) = (of_own actions from e.before h, of_own actions from e.after k)
 
 pub none_leads : (actions x y : ℕ) → LeadsByGates actions [] x y → ⊥
-none_leads actions _ _ (direct e (k, l, h)) = omega arith
-none_leads actions _ _ (through e y (k, l, h) g rest) = omega arith
+none_leads actions _ _ (one_link _ _ (linked e (k, l, h))) = omega arith
+none_leads actions _ _ (link_then _ _ y (linked e (k, l, h)) g rest) = omega arith
 
 pub no_group : (actions from : ℕ) → actions ≤ from → IsGroup actions from from [] (λ x y. ⊥)
 no_group actions from le = record {

@@ -86,7 +86,7 @@ module _ (c : Cluster) (es : List Event) (targets : Targets) (touched : ℕ → 
     order_harmless : (o : Order) → o.first < length c.leaves → o.then_leaf < length c.leaves → is_harmless_order touched r o ≡ true ↔ IsHarmlessOrder c es targets r o
     order_harmless o lf lt = (there, back) where
       there : is_harmless_order touched r o ≡ true → IsHarmlessOrder c es targets r o
-      there h = (first, other) where
+      there h = record { as_first = first; as_then = other } where
         first : o.first ≡ r → ((o.kind ≢ kind.Serialize) × (o.first_op ≡ op.Start)) ⊎ (¬ GetsStepAnywhere c es targets o.then_leaf)
         first e =
             elim (first_kept (r == o.first) (is_serialize o.kind) (is_same_op o.first_op op.Start) (touched o.then_leaf)
@@ -103,7 +103,7 @@ module _ (c : Cluster) (es : List Event) (targets : Targets) (touched : ℕ → 
             (ne_eqb o.first o.then_leaf (λ s. d (rw e at s))))
 
       back : IsHarmlessOrder c es targets r o → is_harmless_order touched r o ≡ true
-      back (f, g) =
+      back f =
           and_from (not (r == o.first && keeps_first touched o)) _
           (first_free (r == o.first) (is_serialize o.kind) (is_same_op o.first_op op.Start) (touched o.then_leaf) first)
           (then_free (r == o.then_leaf) (o.first == o.then_leaf) (touched o.first) other)
@@ -112,7 +112,7 @@ module _ (c : Cluster) (es : List Event) (targets : Targets) (touched : ℕ → 
           word w e = rw e refl
 
           first : (r == o.first) ≡ true → ((is_serialize o.kind ≡ false) × (is_same_op o.first_op op.Start ≡ true)) ⊎ (touched o.then_leaf ≡ false)
-          first e = elim (f (sym (eqb-true r o.first e))) [
+          first e = elim (f.as_first (sym (eqb-true r o.first e))) [
             | inl (k, w) ↦ inl (not_serial o.kind k, word o.first_op w)
             | inr d ↦ inr (untouched o.then_leaf lt d)
           ]
@@ -120,26 +120,26 @@ module _ (c : Cluster) (es : List Event) (targets : Targets) (touched : ℕ → 
           other : (r == o.then_leaf) ≡ true → (o.first == o.then_leaf) ≡ false → touched o.first ≡ false
           other e d =
               let same : r ≡ o.then_leaf = eqb-true r o.then_leaf e in
-              untouched o.first lf (g (sym same) (λ s. both_ways (o.first == o.then_leaf) d (eq-eqb o.first o.then_leaf (rw same at s))))
+              untouched o.first lf (f.as_then (sym same) (λ s. both_ways (o.first == o.then_leaf) d (eq-eqb o.first o.then_leaf (rw same at s))))
 
     colocation_harmless : (col : Colocation) → col.dependent < length c.leaves → col.primary < length c.leaves
         → is_harmless_colocation touched r col ≡ true ↔ IsHarmlessColocation c es targets r col
     colocation_harmless col ld lp = (there, back) where
       there : is_harmless_colocation touched r col ≡ true → IsHarmlessColocation c es targets r col
-      there h apart = (
-        λ e. calm col.primary lp (side_kept (r == col.dependent) (is_separation col) (touched col.primary)
-            (sooner (not (r == col.dependent && (is_separation col && touched col.primary))) _ h) (eq-eqb r col.dependent (sym e)) apart),
-        λ e. calm col.dependent ld (side_kept (r == col.primary) (is_separation col) (touched col.dependent)
-            (later (not (r == col.dependent && (is_separation col && touched col.primary))) _ h) (eq-eqb r col.primary (sym e)) apart),
-      )
+      there h = record {
+        as_dependent = λ apart e. calm col.primary lp (side_kept (r == col.dependent) (is_separation col) (touched col.primary)
+            (sooner (not (r == col.dependent && (is_separation col && touched col.primary))) _ h) (eq-eqb r col.dependent (sym e)) apart);
+        as_primary = λ apart e. calm col.dependent ld (side_kept (r == col.primary) (is_separation col) (touched col.dependent)
+            (later (not (r == col.dependent && (is_separation col && touched col.primary))) _ h) (eq-eqb r col.primary (sym e)) apart);
+      }
 
       back : IsHarmlessColocation c es targets r col → is_harmless_colocation touched r col ≡ true
       back f =
           and_from (not (r == col.dependent && (is_separation col && touched col.primary))) _
           (side_free (r == col.dependent) (is_separation col) (touched col.primary)
-          (λ e a. untouched col.primary lp ((f a).0 (sym (eqb-true r col.dependent e)))))
+          (λ e a. untouched col.primary lp (f.as_dependent a (sym (eqb-true r col.dependent e)))))
           (side_free (r == col.primary) (is_separation col) (touched col.dependent)
-          (λ e a. untouched col.dependent ld ((f a).1 (sym (eqb-true r col.primary e)))))
+          (λ e a. untouched col.dependent ld (f.as_primary a (sym (eqb-true r col.primary e)))))
 
     -- no rule keeps the leaf from migrating
     pub record Free : Type 0 where

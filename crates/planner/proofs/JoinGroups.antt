@@ -4,7 +4,8 @@ use Rattle.std.proofs.lemmas.Bool.{and_parts, eqb-true}
 use Rattle.std.proofs.lemmas.List.Elements.{Contains-append_cases, Contains-append_left, Contains-append_right}
 use Rattle.std.proofs.lemmas.Nat.{div-mul-add, mod-mul-add, mul-add-lt}
 use Rattle.edges.specs.declared.edge.Edge.{Edge}
-use Rattle.cluster_types.specs.Graphs.{LeadsByGates, direct, through}
+use Rattle.edges.specs.Chains.{link_then, linked, one_link}
+use Rattle.cluster_types.specs.Graphs.{LeadsByGates}
 use Rattle.cluster_types.specs.Precedence.{LeafOnNode, both, is_one_cell}
 use Rattle.cluster_types.proofs.GateGroups.{IsOwn, action, gate}
 use Rattle.planner.specs.Inner.Gates.{edge, edge_in, edge_out, gate_edges_at, gate_of, join_edges}
@@ -86,25 +87,25 @@ module _ (actions base leaves width : ℕ) (from to : ℕ → Option LeafOnNode)
 
   -- what leads on from a gate leads to an action of its cell
   pub from_gate : (x y : ℕ) → LeadsByGates actions edges x y → (i : ℕ) (a : LeafOnNode) → from i ≡ Some a → x ≡ gate_of base width a → y < actions → Joined i y
-  from_gate _ _ (direct e c) i a h q l = at_end e (is_edge e c) q l
+  from_gate _ _ (one_link _ _ (linked e c)) i a h q l = at_end e (is_edge e c) q l
     where
       at_end : (e : Edge) → IsJoinEdge e → e.before ≡ gate_of base width a → e.after < actions → Joined i e.after
       at_end _ (into j b m k) q l = absurd (omega arith)
       at_end _ (out_of j b m k) q l =
           joined_by i j a b h k (one_gate a b (fits.from_fits i a h).1 (fits.to_fits j b k).1 (sym q))
-  from_gate _ _ (through e y c g rest) i a h q l = absurd (at_gate e (is_edge e c) g q)
+  from_gate _ _ (link_then _ _ y (linked e c) g rest) i a h q l = absurd (at_gate e (is_edge e c) g q)
     where
       at_gate : (e : Edge) → IsJoinEdge e → actions ≤ e.after → e.before ≡ gate_of base width a → ⊥
       at_gate _ (into j b m k) g q = omega arith
       at_gate _ (out_of j b m k) g q = omega arith
 
   only : (x y : ℕ) → x < actions → y < actions → LeadsByGates actions edges x y → Joined x y
-  only _ _ l m (direct e c) = absurd (at_end e (is_edge e c) l m)
+  only _ _ l m (one_link _ _ (linked e c)) = absurd (at_end e (is_edge e c) l m)
     where
       at_end : (e : Edge) → IsJoinEdge e → e.before < actions → e.after < actions → ⊥
       at_end _ (into j b n k) l m = omega arith
       at_end _ (out_of j b n k) l m = omega arith
-  only _ _ l m (through e y c g rest) = at_gate e (is_edge e c) g l (λ i a h q. from_gate e.after y rest i a h q m)
+  only _ _ l m (link_then _ _ y (linked e c) g rest) = at_gate e (is_edge e c) g l (λ i a h q. from_gate e.after y rest i a h q m)
     where
       at_gate : (e : Edge) → IsJoinEdge e → actions ≤ e.after → e.before < actions
           → ((i : ℕ) (a : LeafOnNode) → from i ≡ Some a → e.after ≡ gate_of base width a → Joined i y) → Joined e.before y
@@ -114,7 +115,7 @@ module _ (actions base leaves width : ℕ) (from to : ℕ → Option LeafOnNode)
   all_on : (x y : ℕ) (u v : Option LeafOnNode) → x < actions → y < actions → from x ≡ u → to y ≡ v → both is_one_cell u v ≡ true → LeadsByGates actions edges x y
   all_on x y (Some a) (Some b) l m h k e =
       let same : to y ≡ Some a = rw (one_cell a b e) k in
-      through (edge x (gate_of base width a)) y (has_in x a l h) (omega arith) (direct (edge (gate_of base width a) y) (has_out y a m same))
+      link_then _ _ y (linked (edge x (gate_of base width a)) (has_in x a l h)) (omega arith) (one_link _ _ (linked (edge (gate_of base width a) y) (has_out y a m same)))
   all_on x y (Some a) None l m h k e = cc
   all_on x y None v l m h k e = cc
 

@@ -1,5 +1,5 @@
 -- An example of what the loss of a node does where a promotion score is told, proved from the definitions.
-use Rattle.std.proofs.Common.{arith, ◌≡◌, ◌≢◌, ◌==◌, ◌&&◌, ◌||◌, not, ap, ℕ, zero, suc, pos, true, false, Option, Some, None, List, [], ◌∷◌, ◌++◌, slice_get, refl, inr}
+use Rattle.std.proofs.Common.{arith, ◌≡◌, ◌≢◌, ◌<◌, ◌==◌, ◌&&◌, ◌||◌, not, ap, ℕ, zero, suc, pos, true, false, None, List, [], ◌∷◌, ◌++◌, refl, inr}
 use Rattle.std.specs.Prelude.{codes}
 use Rattle.std.specs.List.{list_all}
 use Rattle.std.proofs.lemmas.Bool.{ne_eqb}
@@ -10,7 +10,6 @@ use Rattle.cluster_types.specs.declared.journal.Event.TheVariants.{Lost}
 use Rattle.cluster_types.specs.declared.journal.Promotion.{Promotion}
 use Rattle.cluster_types.specs.declared.placement.Decision.{Decision}
 use Rattle.cluster_types.specs.declared.placement.Decision.TheVariants.{Place, Promote}
-use Rattle.cluster_types.specs.declared.placement.NoReason.{NoReason}
 use Rattle.cluster_types.specs.declared.placement.Placed.{Placed}
 use Rattle.cluster_types.specs.declared.placement.Target.TheVariants as target
 use Rattle.cluster_types.specs.declared.report.Loss.{Loss}
@@ -20,7 +19,7 @@ use Rattle.cluster_types.specs.Each.{implies}
 use Rattle.cluster_types.specs.Held.{Held, IsFinalTarget}
 use Rattle.cluster_types.specs.Pins.{pinned_targets}
 use Rattle.cluster_types.specs.Plans.{with_totals}
-use Rattle.cluster_types.specs.Reasons.{HasReason}
+use Rattle.cluster_types.specs.Reasons.{HasReason, leaf_reason}
 use Rattle.cluster_types.specs.Tables.{Targets, targets_of}
 use Rattle.cluster_types.proofs.Few.{cells_of_one}
 use Rattle.cluster_types.proofs.LeastSets.{held-least}
@@ -100,10 +99,9 @@ nothing_is_held = held-least replicated lost chosen (λ d n. ⊥) (record {
   by_place = λ r n promoted held. held;
 })
 
-has_its_target : (reason : Option NoReason) (r : ℕ) → slice_get placed.none r ≡ Some reason → HasReason replicated lost chosen (targets_of placed.table) r reason
-has_its_target None zero h = inr (1, omega arith, refl)
-has_its_target (Some why) zero h = absurd (let f : ⊥ = cc in f)
-has_its_target reason (suc r) h = absurd (let f : ⊥ = cc in f)
+has_its_target : (r : ℕ) → r < 1 → HasReason replicated lost chosen (targets_of placed.table) r (leaf_reason placed.none r)
+has_its_target zero h = inr (1, omega arith, refl)
+has_its_target (suc r) h = absurd (let f : ⊥ = omega arith in f)
 
 abbrev loss : Loss
 loss = record { node = 0; pins = placed.pins; table = placed.table; none = placed.none }
@@ -121,7 +119,7 @@ promoted_by_its_score = record {
     targets = cells_of_one (λ r n. IsFinalTarget replicated lost chosen r n (targets_of placed.table r n))
         (λ h. absurd (is_not h)) (refl, nothing_is_held (Promote 0) 1);
     leaves = refl;
-    reasons = λ r reason h. has_its_target reason r h;
+    reasons = has_its_target;
   };
   pins = refl;
   table = refl;

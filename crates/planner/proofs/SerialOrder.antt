@@ -10,7 +10,7 @@ use Rattle.cluster_types.specs.declared.journal.Action.{Action}
 use Rattle.cluster_types.specs.declared.journal.Action.TheVariants.{Fence, Probe, Operation, MigrateTo, MigrateFrom}
 use Rattle.cluster_types.specs.declared.leaf.Op.TheVariants as op
 use Rattle.cluster_types.specs.declared.rules.Order.{Order}
-use Rattle.cluster_types.specs.Precedence.{cell_of, change_cell}
+use Rattle.cluster_types.specs.Precedence.{cell_of, step_cell}
 use Rattle.planner.specs.Chains.{earlier_of, is_earlier_at, is_cell_on}
 use Rattle.planner.specs.Inner.Index.{IsIndex, places_in}
 use Rattle.planner.specs.Joins.{in_leaf}
@@ -28,7 +28,7 @@ its_leaf r s n m local h = on (s == r) h
     on true e = refl
     on false e = cc
 
-changes_leaf : (r m : ℕ) (local : Bool) (a : Action) → is_cell_on m (in_leaf r local (change_cell a)) ≡ true → is_of_leaf r a ≡ true
+changes_leaf : (r m : ℕ) (local : Bool) (a : Action) → is_cell_on m (in_leaf r local (step_cell a)) ≡ true → is_of_leaf r a ≡ true
 changes_leaf r m local (Fence n) h = cc
 changes_leaf r m local (Probe s n) h = cc
 changes_leaf r m local (Operation op.Start s n i role) h = its_leaf r s n m local h
@@ -68,7 +68,7 @@ module _ (c : Cluster) (actions : List Action) (earlier : Action → Action → 
 
   -- each action of one of the two leaves is among them
   leaf_at : (r m i : ℕ) (local : Bool) (v : Option Action) → slice_get actions i ≡ v
-      → option_map_or (λ a. is_cell_on m (in_leaf r local (change_cell a))) v false ≡ true → i < length actions → is_of_leaf r (get_or actions i none) ≡ true
+      → option_map_or (λ a. is_cell_on m (in_leaf r local (step_cell a))) v false ≡ true → i < length actions → is_of_leaf r (get_or actions i none) ≡ true
   leaf_at r m i local (Some a) at h l =
       let same : a ≡ get_or actions i none = (let e = slice_get-get_or actions i none l in cc) in
       subst (λ v. is_of_leaf r v ≡ true) same (changes_leaf r m local a h)

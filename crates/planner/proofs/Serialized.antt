@@ -6,7 +6,7 @@ use Rattle.std.proofs.lemmas.Bool.{and_from, and_parts, eq-eqb, eqb-true, or_cas
 use Rattle.lemmas.proofs.Booleans.{number_itself}
 use Rattle.cluster_types.specs.declared.journal.Action.{Action}
 use Rattle.cluster_types.specs.declared.rules.Order.{Order}
-use Rattle.cluster_types.specs.Precedence.{LeafOnNode, both, cell_of, change_cell, is_across, is_one_cell, is_serialize, is_serialized}
+use Rattle.cluster_types.specs.Precedence.{LeafOnNode, both, cell_of, step_cell, is_across, is_one_cell, is_serialize, is_serialized}
 use Rattle.planner.specs.Chains.{ArePlacesInOrder, IsChained, changes_at, earlier_of, is_earlier_at, is_cell_on, InChain}
 use Rattle.planner.specs.Joins.{in_leaf}
 use Rattle.planner.proofs.RuleJoins.{ordered_joined}
@@ -54,15 +54,15 @@ module _ (actions : List Action) (is_earlier : Action → Action → Bool) (stri
   abbrev Comes : ℕ → ℕ → Type 0
   Comes i j = is_earlier_at actions is_earlier i j ≡ true
 
-  changes_is : (r m i : ℕ) (e : Action) → slice_get actions i ≡ Some e → changes_at actions r o.local m i ≡ is_cell_on m (in_leaf r o.local (change_cell e))
-  changes_is r m i e at = ap (λ v. option_map_or (λ e. is_cell_on m (in_leaf r o.local (change_cell e))) v false) at
+  changes_is : (r m i : ℕ) (e : Action) → slice_get actions i ≡ Some e → changes_at actions r o.local m i ≡ is_cell_on m (in_leaf r o.local (step_cell e))
+  changes_is r m i e at = ap (λ v. option_map_or (λ e. is_cell_on m (in_leaf r o.local (step_cell e))) v false) at
 
   comes_is : is_earlier_at actions is_earlier x y ≡ is_earlier a b
   comes_is = ap (λ v. earlier_of actions is_earlier v (slice_get actions y)) at_x ∙ ap (λ v. earlier_of actions is_earlier (Some a) v) at_y
 
   -- an action across another: both change cells of one node, or of any
-  across_is : (e f : Action) → is_across o e f ≡ both is_one_cell (in_leaf o.first o.local (change_cell e)) (in_leaf o.then_leaf o.local (change_cell f))
-  across_is e f = ordered_joined o o.first o.then_leaf (change_cell e) (change_cell f)
+  across_is : (e f : Action) → is_across o e f ≡ both is_one_cell (in_leaf o.first o.local (step_cell e)) (in_leaf o.then_leaf o.local (step_cell f))
+  across_is e f = ordered_joined o o.first o.then_leaf (step_cell e) (step_cell f)
 
   earlier_by : (f t : ℕ → Bool) → InChain f t places x y → is_earlier a b ≡ true
   earlier_by f t h = sym comes_is ∙ stands_comes Comes strict x y places ordered.in_order h.before
@@ -74,10 +74,10 @@ module _ (actions : List Action) (is_earlier : Action → Action → Bool) (stri
 
   both_ways : (m : ℕ) → IsChained actions o places m x y → (is_across o a b ≡ true) ⊎ (is_across o b a ≡ true)
   both_ways m (inl h) =
-      inl (across_is a b ∙ one_if_on o.first o.then_leaf o.local (change_cell a) (change_cell b) m (sym (changes_is o.first m x a at_x) ∙ h.first)
+      inl (across_is a b ∙ one_if_on o.first o.then_leaf o.local (step_cell a) (step_cell b) m (sym (changes_is o.first m x a at_x) ∙ h.first)
       (sym (changes_is o.then_leaf m y b at_y) ∙ h.then_is))
   both_ways m (inr h) =
-      inr (across_is b a ∙ one_if_on o.first o.then_leaf o.local (change_cell b) (change_cell a) m (sym (changes_is o.first m y b at_y) ∙ h.then_is)
+      inr (across_is b a ∙ one_if_on o.first o.then_leaf o.local (step_cell b) (step_cell a) m (sym (changes_is o.first m y b at_y) ∙ h.then_is)
       (sym (changes_is o.then_leaf m x a at_x) ∙ h.first))
 
   earlier_if : (m : ℕ) → IsChained actions o places m x y → is_earlier a b ≡ true

@@ -16,7 +16,7 @@ use Rattle.cluster_types.specs.Tables.{Targets}
 use Rattle.cluster_types.specs.UnpackedStates.{states_of}
 use Rattle.cluster_types.specs.Valid.{IsValid}
 use Rattle.loops.proofs.FromValid.{valid_order}
-use Rattle.loops.proofs.OneRanking.{rank_bounded}
+use Rattle.loops.proofs.RankChains.{rank_bounded}
 use Rattle.planner.specs.Inner.Actions.{all_fences, is_undisturbed, is_touched, leaves_actions}
 use Rattle.planner.specs.CycledCells.{MarkedCells, first_marks, with_orders}
 use Rattle.planner.specs.Inner.Levels.{below_level, need_at}
@@ -26,7 +26,7 @@ use Rattle.planner.proofs.WholeList.{whole_list}
 
 module _ (c : Cluster) (valid : IsValid c) (es : List Event) (ps : List Promotion) (targets : Targets) where
   below_top : (o : Order) → Contains c.orders o → rank c (step_of Stop o.first) < suc (4 * length c.leaves)
-  below_top o h = let b = rank_bounded c (valid_order c valid.orders) valid.steps (step_of Stop o.first) in omega arith
+  below_top o h = let b = rank_bounded c (step_of Stop o.first) in omega arith
 
   abbrev marks : MarkedCells
   marks = with_orders c es targets (first_marks c es targets) (below_level c (suc (4 * length c.leaves)))

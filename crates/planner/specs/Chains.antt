@@ -1,9 +1,9 @@
--- The chains of an order of the kind Serialize: for each node where it is local, and else one for all.
+-- The chains of an order of the kind Serialize: where it is local one for each node, and else one for all nodes, which goes by node 0.
 use Rattle.std.specs.Prelude.{◌≡◌, ℕ, ◌<◌, ◌==◌, Bool, true, false, Option, Some, None, List, length, slice_get, AllPairs, Contains, ◌⊎◌, ◌∷◌}
 use Rattle.std.specs.Option.{option_map_or}
 use Rattle.cluster_types.specs.declared.journal.Action.{Action}
 use Rattle.cluster_types.specs.declared.rules.Order.{Order}
-use Rattle.cluster_types.specs.Precedence.{LeafOnNode, change_cell}
+use Rattle.cluster_types.specs.Precedence.{LeafOnNode, step_cell}
 use Rattle.planner.specs.Joins.{in_leaf}
 
 -- one stands before another in a list
@@ -24,7 +24,7 @@ is_cell_on m None = false
 module _ (actions : List Action) where
   -- the action at a position changes a cell of the leaf, on the node that the chain is for
   abbrev pub changes_at : ℕ → Bool → ℕ → ℕ → Bool
-  changes_at r local m place = option_map_or (λ a. is_cell_on m (in_leaf r local (change_cell a))) (slice_get actions place) false
+  changes_at r local m place = option_map_or (λ a. is_cell_on m (in_leaf r local (step_cell a))) (slice_get actions place) false
 
   -- two chains say for one node which of two positions comes first
   abbrev pub IsChained : Order → List ℕ → ℕ → ℕ → ℕ → Type 0
@@ -41,7 +41,7 @@ module _ (actions : List Action) (is_earlier : Action → Action → Bool) where
   abbrev pub is_earlier_at : ℕ → ℕ → Bool
   is_earlier_at x y = earlier_of (slice_get actions x) (slice_get actions y)
 
-  -- the positions of an order's actions, in the order of numbers
+  -- positions in the order of numbers, among them those of all steps of an order's leaves
   pub record ArePlacesInOrder (o : Order) (places : List ℕ) : Type 0 where
     pub in_order : AllPairs (λ x y. is_earlier_at x y ≡ true) places
     pub first_there : (m i : ℕ) → i < length actions → changes_at actions o.first o.local m i ≡ true → Contains places i

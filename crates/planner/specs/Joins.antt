@@ -1,4 +1,4 @@
--- What must precede, as joins: each action of the one side comes before each of the other that has its cell. So each cell of a join can have a gate.
+-- What must precede, but for Serialize orders, as joins: each action of the one side comes before each of the other that has its cell. So each cell of a join can have a gate.
 use Rattle.std.specs.Prelude.{ℕ, ◌+◌, nat_lt, ◌==◌, ◌&&◌, Bool, true, if◌then◌else◌, Option, Some, None, List, ◌∷◌, ◌++◌, length, []}
 use Rattle.std.specs.List.{flat_map}
 use Rattle.cluster_types.specs.declared.cluster.Cluster.{Cluster}
@@ -13,9 +13,9 @@ use Rattle.planner.specs.declared.precedence.sides.Side.{Side}
 use Rattle.planner.specs.declared.precedence.sides.Side.TheVariants as side
 use Rattle.cluster_types.specs.Choice.{is_separation}
 use Rattle.cluster_types.specs.Fields.{copies}
-use Rattle.cluster_types.specs.Precedence.{LeafOnNode, as_earlier, as_later, both, cell_of, change_cell, gives_any, gives_role, inverse, is_one_cell, is_serialize, is_giving, op_cell, probe_cell, takes_or_probes}
+use Rattle.cluster_types.specs.Precedence.{LeafOnNode, as_earlier, as_later, both, cell_of, step_cell, gives_any, gives_role, inverse, is_one_cell, is_serialize, is_giving, op_cell, probe_cell, takes_or_probes}
 
--- by leaf alone, and all together
+-- the cell of a join by leaf alone: node 0 stands for every node. All together: leaf 0 on node 0 stands for every cell
 abbrev pub by_leaf : Option LeafOnNode → Option LeafOnNode
 by_leaf (Some a) = cell_of a.leaf 0
 by_leaf None = None
@@ -38,14 +38,17 @@ abbrev pub fence_cell : Action → Option LeafOnNode
 fence_cell (action.Fence n) = cell_of 0 0
 fence_cell _ = None
 
+-- what comes before a stop of its cell, by `comes_first_in_cell` or by `migrates_first`: a demote there, or the taking in of a leaf whose source it is
 abbrev pub before_stop : Action → Option LeafOnNode
 before_stop (action.MigrateFrom r source target) = cell_of r source
 before_stop a = op_cell op.Demote a
 
+-- what comes before a monitor of its cell, by the same two: a start, stop, promote or demote there, or the taking in of a leaf whose target it is
 abbrev pub before_monitor : Action → Option LeafOnNode
 before_monitor (action.MigrateFrom r source target) = cell_of r target
-before_monitor a = change_cell a
+before_monitor a = step_cell a
 
+-- the sending and the taking in of a leaf, by leaf alone: the first turn of `migrates_first`
 abbrev pub send_cell : Action → Option LeafOnNode
 send_cell (action.MigrateTo r source target) = cell_of r 0
 send_cell _ = None

@@ -10,8 +10,8 @@ ghost use Rattle.cluster_types.specs.Tables.{Targets};
 ghost use Rattle.loops.specs.FirstLoops.{AllOrder};
 ghost use Rattle.planner.specs.CycledCells.{AreCycling, FallByRank, NoneComesBack, first_marks, with_orders};
 
-/// One pass over the orders that may have cells cycled marks just the cells that are stopped and started again, where none of them has as
-/// its then the first of one that came before it.
+/// One pass over the orders that may have cells cycled marks just the cycled cells, where none of them has as its then its own first, or the first of one that
+/// came before it.
 pub fn marks_of_orders_are_the_cycled()
     ensures { (c : Cluster) (es : List Event) (targets : Targets) (os : List Order) → AreCycling c os → NoneComesBack os
         → (r n : ℕ) → with_orders c es targets (first_marks c es targets) os r n ≡ true ↔ Cycled c es targets r n }

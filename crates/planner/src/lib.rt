@@ -35,7 +35,7 @@ pub use edge_laws::{
 pub use laws::a_plan_exists_and_is_unique;
 pub use losing::survive;
 pub use needed_actions::building::actions;
-pub use number_laws::{needed_actions_have_places_of_their_own, plans_have_few_edges};
+pub use number_laws::{needed_actions_of_places_are_unique, plans_have_few_edges};
 pub use numbering::number;
 pub use planning::{plan, plan_of};
 pub(crate) use precedence::migrating::migrating_flags;

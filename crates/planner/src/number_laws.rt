@@ -14,7 +14,7 @@ ghost use Rattle.cluster_types.specs.Valid.{IsValid};
 ghost use Rattle.planner.specs.PlannedActions.{AreOfSomePlan};
 
 /// No two needed actions have one place in the order of numbers. So of each plan there is one order of numbers.
-pub fn needed_actions_have_places_of_their_own()
+pub fn needed_actions_of_places_are_unique()
     ensures { (c : ClusterOf) (events : List EventOf) (promotions : List PromotionOf) (placed : PlacedOf) (actions : List ActionOf) (x y : ActionOf)
         → IsValid c → IsPlaced c events promotions placed
         → ((a : ActionOf) → Contains actions a ↔ Needed c events (targets_of placed.table) a)

@@ -1,6 +1,6 @@
 //! What is written of runs.
 
-ghost use Rattle.trace_text.specs.RunLines.{HasName, HasShortNames, IsReasonNamed};
+ghost use Rattle.trace_text.specs.RunLines.{HasNamedRule, HasShortNames, IsReasonNamed};
 
 use crate::small_graphs::{PROBE_1, PROBE_2, START_1};
 use crate::starts::{CONFIGURATION, cluster_of};
@@ -17,7 +17,7 @@ use trace_text::{LineBuf, RunLineRef, run_text, valid_clusters_have_short_names,
 /// Adds a line to a text.
 fn add(rt: &impl Abort, text: &mut Vec<u8>, cluster: &Cluster, line: &RunLineRef<'_>)
     requires names { HasShortNames cluster.now }
-    requires reason { HasName line.now }
+    requires reason { HasNamedRule line.now }
 {
     let mut buf = LineBuf::new();
     write_line(cluster, line, &mut buf);

@@ -8,8 +8,8 @@ use Rattle.cluster_types.specs.declared.journal.Answer.{Answer}
 use Rattle.cluster_types.specs.declared.journal.Event.{Event}
 use Rattle.cluster_types.specs.May.{may_be_running}
 use Rattle.cluster_types.specs.NeededActions.{Migrates}
-use Rattle.cluster_types.specs.Safety.{MigratesAlone, MigrationsAlone}
-use Rattle.cluster_types.specs.Steps.{Transition, Begins, Goes, journal}
+use Rattle.cluster_types.specs.Safety.{HasItsLeafAlone, MigrationsAlone}
+use Rattle.cluster_types.specs.Steps.{Transition, Begins, GoesBySteps, journal}
 use Rattle.cluster_types.specs.Tables.{Targets}
 use Rattle.cluster_types.specs.Valid.{IsValid}
 use Rattle.plan_laws.proofs.NeededActions.{migrates_by_sent, migrates_by_taken}
@@ -21,7 +21,7 @@ use Rattle.run_safety.proofs.Sending.{not_there_yet}
 use Rattle.run_safety.proofs.Truths.{refuse}
 
 module _ (t : Transition) (targets : Targets) (carries : Carries t targets) (sound : IsSound t targets) (valid : IsValid t.cluster) where
-  sending_alone : (since : List Event) (k r n to : ℕ) → Calm t since → Begins t since k (MigrateTo r n to) → MigratesAlone t since (MigrateTo r n to)
+  sending_alone : (since : List Event) (k r n to : ℕ) → Calm t since → Begins t since k (MigrateTo r n to) → HasItsLeafAlone t.cluster (MigrateTo r n to) (journal t since)
   sending_alone since k r n to calm begins m low not_source = by (m == to) refl
     where
       g : Migrates t.cluster t.planned_at targets r n to
@@ -33,7 +33,7 @@ module _ (t : Transition) (targets : Targets) (carries : Carries t targets) (sou
           let same = eqb-true m to e in
           subst (λ z. may_be_running t.cluster r z (journal t since) ≡ false) (sym same) (not_there_yet t targets carries sound valid r n to g since k calm begins (subst (λ z. z < length t.cluster.nodes) same low))
 
-  migrates_alone : (since : List Event) (k : ℕ) (a : Action) → Calm t since → Begins t since k a → MigratesAlone t since a
+  migrates_alone : (since : List Event) (k : ℕ) (a : Action) → Calm t since → Begins t since k a → HasItsLeafAlone t.cluster a (journal t since)
   migrates_alone since k (MigrateTo r n to) calm begins = sending_alone since k r n to calm begins
   migrates_alone since k (MigrateFrom r n to) calm begins =
       λ m low not_source not_target.
@@ -42,5 +42,5 @@ module _ (t : Transition) (targets : Targets) (carries : Carries t targets) (sou
   migrates_alone since k (Probe r n) calm begins = tt
   migrates_alone since k (Operation o r n i h) calm begins = tt
 
-  pub migrations_alone : (whole : Bool) (rest left : Option (List Answer)) (later : List Event) → Goes t whole [] rest later left → MigrationsAlone t later
-  migrations_alone = each_begin t (λ before k a. MigratesAlone t before a) migrates_alone
+  pub migrations_alone : (whole : Bool) (rest left : Option (List Answer)) (later : List Event) → GoesBySteps t whole [] rest later left → MigrationsAlone t later
+  migrations_alone = each_begin t (λ before k a. HasItsLeafAlone t.cluster a (journal t before)) migrates_alone

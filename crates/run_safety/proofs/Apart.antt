@@ -19,8 +19,8 @@ use Rattle.cluster_types.specs.LawfulTables.{IsLawfulCell}
 use Rattle.cluster_types.specs.NeededActions.{Needed}
 use Rattle.cluster_types.specs.NodeStates.{is_online}
 use Rattle.cluster_types.specs.Precedence.{LeafOnNode, cell_of, gives_any, gives_role, is_parted, parts_first, takes_or_probes}
-use Rattle.cluster_types.specs.Safety.{StaysApart, NoForbiddenNeighbour, may_have_role}
-use Rattle.cluster_types.specs.Steps.{Transition, Begins, Goes, journal}
+use Rattle.cluster_types.specs.Safety.{NoForbiddenNeighbour, OtherIsAway, may_have_role}
+use Rattle.cluster_types.specs.Steps.{Transition, Begins, GoesBySteps, journal}
 use Rattle.cluster_types.specs.Tables.{Targets, holds_role, is_promoted_target}
 use Rattle.cluster_types.specs.Valid.{IsValidColocation, FitsRole}
 use Rattle.cluster_types.proofs.Operations.{role_gives}
@@ -107,7 +107,8 @@ module _ (t : Transition) (targets : Targets) (carries : Carries t targets) (sou
   there role.Promoted r h = h.0
 
   no_neighbour : (since : List Event) (k : ℕ) (a : Action) → Calm t since → Begins t since k a → (col : Colocation) → Contains t.cluster.colocations col → is_separation col ≡ true
-      → StaysApart t since a col.dependent col.dependent_role col.primary col.primary_role × StaysApart t since a col.primary col.primary_role col.dependent col.dependent_role
+      → OtherIsAway t.cluster a col.dependent col.dependent_role col.primary col.primary_role (journal t since)
+      × OtherIsAway t.cluster a col.primary col.primary_role col.dependent col.dependent_role (journal t since)
   no_neighbour since k a calm begins col has apart =
       (one (gives_role col.dependent_role a) refl, other (gives_role col.primary_role a) refl)
     where
@@ -138,8 +139,9 @@ module _ (t : Transition) (targets : Targets) (carries : Carries t targets) (sou
           (subst (λ z. holds_role targets z col.primary_role at.node ≡ true) (sym same)
           (has_target since k a calm begins col.primary_role col.dependent_role col.primary col.dependent at e same)))
 
-  pub no_forbidden_neighbour : (whole : Bool) (rest left : Option (List Answer)) (later : List Event) → Goes t whole [] rest later left → NoForbiddenNeighbour t later
+  pub no_forbidden_neighbour : (whole : Bool) (rest left : Option (List Answer)) (later : List Event) → GoesBySteps t whole [] rest later left → NoForbiddenNeighbour t later
   no_forbidden_neighbour =
       each_begin t (λ before k a. (col : Colocation) → Contains t.cluster.colocations col → is_separation col ≡ true
-      → StaysApart t before a col.dependent col.dependent_role col.primary col.primary_role × StaysApart t before a col.primary col.primary_role col.dependent col.dependent_role)
+      → OtherIsAway t.cluster a col.dependent col.dependent_role col.primary col.primary_role (journal t before)
+      × OtherIsAway t.cluster a col.primary col.primary_role col.dependent col.dependent_role (journal t before))
       no_neighbour

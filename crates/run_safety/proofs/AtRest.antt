@@ -12,7 +12,7 @@ use Rattle.cluster_types.specs.declared.journal.Event.TheVariants.{Lost}
 use Rattle.cluster_types.specs.declared.journal.Outcome.TheVariants.{Gone}
 use Rattle.cluster_types.specs.AnswersThatApply.{end_event}
 use Rattle.cluster_types.specs.Journals.{ends_number, in_flight_by_begin, is_on}
-use Rattle.cluster_types.specs.Steps.{Transition, Goes, here, one_more, numbers_in_flight, in_flight_by_number, has_begun, is_number_in_flight, journal, numbers}
+use Rattle.cluster_types.specs.Steps.{Transition, GoesBySteps, here, one_more, numbers_in_flight, in_flight_by_number, has_begun, is_number_in_flight, journal, numbers}
 use Rattle.cluster_types.proofs.SourceLaws.{none-in_flight}
 use Rattle.run_safety.proofs.Each.{Each, more, none}
 use Rattle.run_safety.proofs.Flown.{Flown, begin_flown, silent_flown}
@@ -49,12 +49,12 @@ module _ (t : Transition) where
   add_flown since _ flown (quorum now) = silent_flown t since _ flown refl (λ j low e. cc)
   add_flown since _ flown (wait seconds) = silent_flown t since _ flown refl (λ j low e. cc)
 
-  flown_on : (whole : Bool) (since later : List Event) (rest left : Option (List Answer)) → Goes t whole since rest later left → Flown t since → Flown t later
+  flown_on : (whole : Bool) (since later : List Event) (rest left : Option (List Answer)) → GoesBySteps t whole since rest later left → Flown t since → Flown t later
   flown_on whole since _ rest _ (here _ _) flown = flown
   flown_on whole since after rest left (one_more _ events _ _ middle _ step next) flown =
       flown_on whole (since ++ events) after middle left next (add_flown since events flown (step_adds t since whole events rest middle step))
 
-  pub flown_always : (whole : Bool) (rest left : Option (List Answer)) (later : List Event) → Goes t whole [] rest later left → Flown t later
+  pub flown_always : (whole : Bool) (rest left : Option (List Answer)) (later : List Event) → GoesBySteps t whole [] rest later left → Flown t later
   flown_always whole rest left after goes = flown_on whole [] after rest left goes (record { all = none; begun_first = λ k low h. cc })
 
   -- a number that passes is among those that are filtered
@@ -73,7 +73,7 @@ module _ (t : Transition) where
       let within = number_within t.actions p.0 p.1 f.action in
       absurd (passes_none (is_number_in_flight t since) p.0 f.in_flight (numbers t) (some_in_range (λ j. j == p.0) 1 (length t.actions) p.0 (omega (arith, within.0)) (omega (arith, within.1)) (number_itself p.0)) idle)
 
-  pub nothing_left : (whole : Bool) (rest left : Option (List Answer)) (later : List Event) → in_flight_by_begin t.planned_at ≡ [] → Goes t whole [] rest later left
+  pub nothing_left : (whole : Bool) (rest left : Option (List Answer)) (later : List Event) → in_flight_by_begin t.planned_at ≡ [] → GoesBySteps t whole [] rest later left
       → numbers_in_flight t later ≡ [] → in_flight_by_begin (journal t later) ≡ []
   nothing_left whole rest left after before goes idle =
       none-in_flight t.planned_at after before ∙ idle_flown after idle (in_flight_by_begin after) (flown_always whole rest left after goes).all

@@ -7,7 +7,7 @@ use Rattle.cluster_types.specs.declared.journal.Answer.{Answer}
 use Rattle.cluster_types.specs.declared.journal.Event.{Event}
 use Rattle.cluster_types.specs.declared.journal.Event.TheVariants.{Begin}
 use Rattle.cluster_types.specs.Safety.{AtEachBegin}
-use Rattle.cluster_types.specs.Steps.{Transition, Begins, Goes, here, one_more, has_aborted}
+use Rattle.cluster_types.specs.Steps.{Transition, Begins, GoesBySteps, here, one_more, has_aborted}
 use Rattle.cluster_types.proofs.StepLaws.{split, no_begin, begins_nothing, not_aborted}
 use Rattle.cluster_types.proofs.EagerLaws.{at_only}
 use Rattle.run_safety.proofs.Calm.{Calm, none, add_calm}
@@ -40,7 +40,7 @@ module _ (t : Transition) (P : List Event → ℕ → Action → Type 0) (holds 
   add_begins since _ (quorum now) calm at = silent since _ refl at
   add_begins since _ (wait seconds) calm at = silent since _ refl at
 
-  begins_on : (whole : Bool) (since later : List Event) (rest left : Option (List Answer)) → Goes t whole since rest later left
+  begins_on : (whole : Bool) (since later : List Event) (rest left : Option (List Answer)) → GoesBySteps t whole since rest later left
       → (has_aborted t since ≡ false → Calm t since) → AtEachBegin P since → AtEachBegin P later
   begins_on whole since _ rest _ (here _ _) calm at = at
   begins_on whole since after rest left (one_more _ events _ _ middle _ step next) calm at =
@@ -48,5 +48,5 @@ module _ (t : Transition) (P : List Event → ℕ → Action → Type 0) (holds 
       begins_on whole (since ++ events) after middle left next
       (λ g. let parts = aborted_before t since events g in add_calm t since events adds (calm parts.0) parts.1) (add_begins since events adds calm at)
 
-  pub each_begin : (whole : Bool) (rest left : Option (List Answer)) (later : List Event) → Goes t whole [] rest later left → AtEachBegin P later
+  pub each_begin : (whole : Bool) (rest left : Option (List Answer)) (later : List Event) → GoesBySteps t whole [] rest later left → AtEachBegin P later
   each_begin whole rest left after goes = begins_on whole [] after rest left goes (λ g. none) (λ before behind k a q. no_begin (P before k a) [] before behind k a refl q)

@@ -31,11 +31,11 @@ module _ (c : Cluster) (promotions : List Promotion) (whole : Bool) (first : Lis
   one_end _ _ rest _ before _ (aborts k t since _ ended aborted) ends = after_aborted k (journal t since) (before ++ line.Aborted k ∷ []) (record { front = before; joined = refl })
   one_end _ _ rest left before _ (answers k es _ _ given said applies) ends = one_answer k es (es ++ answer_events (idling c es) [] given) given before ends
 
-  pub ends_between : (at : RunStanding) (rest left : Option (List Answer)) (lines : List RunLine) → Runs c promotions whole (due 1 first) rest lines at left → IsBetween c promotions whole at → EndsBetween first at lines
+  pub ends_between : (at : RunStanding) (rest left : Option (List Answer)) (lines : List RunLine) → Runs c promotions whole (due 1 first) rest lines at left → IsBetween at → EndsBetween first at lines
   ends_between at rest left lines runs = by at (along c promotions whole (λ p _ before. Ends p before) (λ p q middle behind before more step ends. one_end p q middle behind before more step ends)
       (due 1 first) at rest left [] lines runs at_first)
     where
-      by : (at : RunStanding) → Ends at lines → IsBetween c promotions whole at → EndsBetween first at lines
+      by : (at : RunStanding) → Ends at lines → IsBetween at → EndsBetween first at lines
       by (due k es) ends h = ends
       by (amid k t since) ends h = absurd h
       by (idle k es) ends h = ends

@@ -17,7 +17,7 @@ use Rattle.cluster_types.specs.declared.journal.Event.{Event}
 use Rattle.cluster_types.specs.declared.journal.Event.TheVariants.{Up, Down, Lost, Quorum, Wait, Cleanup, Begin, Ended}
 use Rattle.cluster_types.specs.AnswersThatApply.{is_number_of}
 use Rattle.cluster_types.specs.Journals.{AreInFlightByNumber, ends_number, in_flight_by_begin}
-use Rattle.cluster_types.specs.Steps.{Goes, Transition, action_at, begins_number, has_begun, in_flight_by_number, is_number_in_flight, numbered, numbers, numbers_in_flight}
+use Rattle.cluster_types.specs.Steps.{GoesBySteps, Transition, action_at, begins_number, has_begun, in_flight_by_number, is_number_in_flight, numbered, numbers, numbers_in_flight}
 use Rattle.cluster_types.proofs.SourceLaws.{none-in_flight}
 use Rattle.run_safety.proofs.AtRest.{flown_always}
 use Rattle.run_safety.proofs.Each.{Each, more, none}
@@ -122,7 +122,7 @@ in_order actions ks h i j d lt within =
     rw (get_or-map (with_action actions) ks i 0 d (omega arith), get_or-map (with_action actions) ks j 0 d (omega arith)) (h i j 0 lt (omega arith))
 
 module _ (t : Transition) (whole : Bool) (rest left : Option (List Answer)) (since : List Event) (idle : in_flight_by_begin t.planned_at ≡ [])
-    (goes : Goes t whole [] rest since left) where
+    (goes : GoesBySteps t whole [] rest since left) where
   all_flown : Each (Flies t since) (in_flight_by_begin since)
   all_flown = (flown_always t whole rest left since goes).all
 

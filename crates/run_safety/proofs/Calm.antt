@@ -17,7 +17,7 @@ use Rattle.cluster_types.specs.declared.leaf.Role.TheVariants as role
 use Rattle.cluster_types.specs.AnswersThatApply.{monitor_action, role_of_interval}
 use Rattle.cluster_types.specs.Fields.{monitors}
 use Rattle.cluster_types.specs.Outcomes.{is_bad, is_ignored}
-use Rattle.cluster_types.specs.Steps.{Transition, Begins, Goes, here, one_more, aborts, action_at, has_aborted, is_number_in_flight, is_success}
+use Rattle.cluster_types.specs.Steps.{Transition, Begins, GoesBySteps, here, one_more, aborts, action_at, has_aborted, is_number_in_flight, is_success}
 use Rattle.run_safety.proofs.InOrder.{aborted_before}
 use Rattle.run_safety.proofs.Shapes.{Adds, nothing, begun as begins, over, reported, lost, up, quorum, wait, isnt_gone, step_adds, gone_with}
 use Rattle.run_safety.proofs.Truths.{refuse}
@@ -61,7 +61,7 @@ module _ (t : Transition) where
   add_calm since _ (quorum now) calm h = absurd (let f : ⊥ = cc in f)
   add_calm since _ (wait seconds) calm h = waited since seconds calm
 
-  pub calm_on : (whole : Bool) (since later : List Event) (rest left : Option (List Answer)) → Goes t whole since rest later left
+  pub calm_on : (whole : Bool) (since later : List Event) (rest left : Option (List Answer)) → GoesBySteps t whole since rest later left
       → (has_aborted t since ≡ false → Calm t since) → has_aborted t later ≡ false → Calm t later
   calm_on whole since _ rest _ (here _ _) calm h = calm h
   calm_on whole since after rest left (one_more _ events _ _ middle _ step next) calm h =
@@ -69,5 +69,5 @@ module _ (t : Transition) where
       (λ g. let parts = aborted_before t since events g in add_calm since events (step_adds t since whole events rest middle step) (calm parts.0) parts.1) h
 
   -- until an abort
-  pub calm_until : (whole : Bool) (rest left : Option (List Answer)) (later : List Event) → Goes t whole [] rest later left → has_aborted t later ≡ false → Calm t later
+  pub calm_until : (whole : Bool) (rest left : Option (List Answer)) (later : List Event) → GoesBySteps t whole [] rest later left → has_aborted t later ≡ false → Calm t later
   calm_until whole rest left after goes h = calm_on whole [] after rest left goes (λ g. none) h

@@ -21,8 +21,8 @@ use Rattle.cluster_types.specs.LawfulTables.{role_count}
 use Rattle.cluster_types.specs.May.{may_be_running}
 use Rattle.cluster_types.specs.Precedence.{LeafOnNode, gives_any, op_cell}
 use Rattle.cluster_types.specs.Rights.{may_start}
-use Rattle.cluster_types.specs.Safety.{HasRoomForCopy, NoSecondCopy}
-use Rattle.cluster_types.specs.Steps.{Transition, Begins, Goes, journal}
+use Rattle.cluster_types.specs.Safety.{MayRunOnFewOthers, NoSecondCopy}
+use Rattle.cluster_types.specs.Steps.{Transition, Begins, GoesBySteps, journal}
 use Rattle.cluster_types.specs.Tables.{Targets, is_somewhere}
 use Rattle.run_safety.proofs.Begins.{each_begin}
 use Rattle.run_safety.proofs.Calm.{Calm}
@@ -64,10 +64,10 @@ module _ (t : Transition) (targets : Targets) (carries : Carries t targets) (sou
         (succeeded t targets carries since k (Operation op.Stop at.leaf m 0 role.Started) a begins first.stopped)
         (succeeded t targets carries since k (Fence m) a begins first.fenced)) on)
 
-    adds_none : (nat_lt (copies t.cluster at.leaf) (length t.cluster.nodes) ≡ true → (m : ℕ) → Precedes at.leaf a m) → HasRoomForCopy t since at
+    adds_none : (nat_lt (copies t.cluster at.leaf) (length t.cluster.nodes) ≡ true → (m : ℕ) → Precedes at.leaf a m) → MayRunOnFewOthers t.cluster at (journal t since)
     adds_none first = by (nat_lt (copies t.cluster at.leaf) (length t.cluster.nodes)) refl
       where
-        by : (few : Bool) → nat_lt (copies t.cluster at.leaf) (length t.cluster.nodes) ≡ few → HasRoomForCopy t since at
+        by : (few : Bool) → nat_lt (copies t.cluster at.leaf) (length t.cluster.nodes) ≡ few → MayRunOnFewOthers t.cluster at (journal t since)
         by true e =
             let counted = others_fewer (λ m. may_be_running t.cluster at.leaf m (journal t since)) (λ m. is_somewhere (targets at.leaf m)) at.node (length t.cluster.nodes) is_given.node
             is_given.somewhere (λ m low other on. targeted m low (first e m) on) in
@@ -97,7 +97,7 @@ module _ (t : Transition) (targets : Targets) (carries : Carries t targets) (sou
 
   -- at each begin
   no_copy : (since : List Event) (k : ℕ) (a : Action) → Calm t since → Begins t since k a
-      → IfSome (op_cell op.Start a) (HasRoomForCopy t since) × IfSome (op_cell op.Promote a) (HasRoomForCopy t since)
+      → IfSome (op_cell op.Start a) (λ at. MayRunOnFewOthers t.cluster at (journal t since)) × IfSome (op_cell op.Promote a) (λ at. MayRunOnFewOthers t.cluster at (journal t since))
   no_copy since k (Operation op.Start r n i held) calm begins =
       (adds_none t targets carries sound orderly since k (Operation op.Start r n i held) calm begins (record { leaf = r; node = n }) refl (before_start r n i held), tt)
   no_copy since k (Operation op.Promote r n i held) calm begins =
@@ -110,5 +110,5 @@ module _ (t : Transition) (targets : Targets) (carries : Carries t targets) (sou
   no_copy since k (MigrateTo r n m) calm begins = (tt, tt)
   no_copy since k (MigrateFrom r n m) calm begins = (tt, tt)
 
-  pub no_second_copy : (whole : Bool) (rest left : Option (List Answer)) (later : List Event) → Goes t whole [] rest later left → NoSecondCopy t later
-  no_second_copy = each_begin t (λ before k a. IfSome (op_cell op.Start a) (HasRoomForCopy t before) × IfSome (op_cell op.Promote a) (HasRoomForCopy t before)) no_copy
+  pub no_second_copy : (whole : Bool) (rest left : Option (List Answer)) (later : List Event) → GoesBySteps t whole [] rest later left → NoSecondCopy t later
+  no_second_copy = each_begin t (λ before k a. IfSome (op_cell op.Start a) (λ at. MayRunOnFewOthers t.cluster at (journal t before)) × IfSome (op_cell op.Promote a) (λ at. MayRunOnFewOthers t.cluster at (journal t before))) no_copy

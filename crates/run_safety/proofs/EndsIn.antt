@@ -13,7 +13,7 @@ use Rattle.cluster_types.specs.May.{may_be_running, may_be_promoted}
 use Rattle.cluster_types.specs.NodeStates.{is_online}
 use Rattle.cluster_types.specs.Pins.{is_pinned}
 use Rattle.cluster_types.specs.Safety.{EndsInTargets, IsEager, state_of_target}
-use Rattle.cluster_types.specs.Steps.{Transition, Goes, HasEnded, begins_number, has_aborted, has_succeeded, journal, succeeds_number}
+use Rattle.cluster_types.specs.Steps.{Transition, GoesBySteps, HasEnded, begins_number, has_aborted, has_succeeded, journal, succeeds_number}
 use Rattle.cluster_types.specs.Tables.{Targets, is_promoted_target, is_somewhere}
 use Rattle.cluster_types.specs.Valid.{IsValid}
 use Rattle.cluster_types.proofs.SafetyLaws.{eager}
@@ -37,7 +37,7 @@ as_target target.Started online unseen blocked left promoted run a b c d e f = r
 as_target target.Promoted online unseen blocked left promoted run a b c d e f = rw (a, b, c, d, e, f refl) refl
 
 module _ (t : Transition) (targets : Targets) (carries : Carries t targets) (sound : IsSound t targets) (valid : IsValid t.cluster) (orderly : Orderly t.planned_at)
-    (upward : (j k : ℕ) → t.precedes j k ≡ true → j < k) (whole : Bool) (rest left : Option (List Answer)) (since : List Event) (goes : Goes t whole [] rest since left)
+    (upward : (j k : ℕ) → t.precedes j k ≡ true → j < k) (whole : Bool) (rest left : Option (List Answer)) (since : List Event) (goes : GoesBySteps t whole [] rest since left)
     (ended : HasEnded t since) (unaborted : has_aborted t since ≡ false) where
   calm : Calm t since
   calm = calm_until t whole rest left since goes unaborted

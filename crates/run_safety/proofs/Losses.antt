@@ -14,7 +14,7 @@ use Rattle.cluster_types.specs.declared.journal.Outcome.TheVariants.{Code, Gone}
 use Rattle.cluster_types.specs.AnswersThatApply.{end_event, monitor_action, tells_failure}
 use Rattle.cluster_types.specs.Journals.{joined, Orderly, ends_number, is_on, last_sign, sign_of, needs_node}
 use Rattle.cluster_types.specs.NodeStates.{is_online}
-use Rattle.cluster_types.specs.Steps.{Transition, Goes, here, one_more, aborts, action_at, begins_number, in_flight_by_number, has_aborted, is_number_in_flight, journal}
+use Rattle.cluster_types.specs.Steps.{Transition, GoesBySteps, here, one_more, aborts, action_at, begins_number, in_flight_by_number, has_aborted, is_number_in_flight, journal}
 use Rattle.cluster_types.proofs.StepLaws.{split, not_aborted, begins_nothing, joined_all, map_all}
 use Rattle.cluster_types.proofs.EagerLaws.{at_only}
 use Rattle.run_safety.proofs.Each.{Each, each_at, each_end, each_map, none_passes}
@@ -108,7 +108,7 @@ module _ (t : Transition) (keeps : KeepsToNodes t) where
   add_stands since _ stands (quorum now) = stands_still t keeps since stands (Quorum now) (λ j. refl) (λ m w. absurd (let f : ⊥ = cc in f)) (λ m on. refl)
   add_stands since _ stands (wait seconds) = stands_still t keeps since stands (Wait seconds) (λ j. refl) (λ m w. absurd (let f : ⊥ = cc in f)) (λ m on. refl)
 
-  stands_on : (whole : Bool) (since later : List Event) (rest left : Option (List Answer)) → Goes t whole since rest later left → Stands t since → Stands t later
+  stands_on : (whole : Bool) (since later : List Event) (rest left : Option (List Answer)) → GoesBySteps t whole since rest later left → Stands t since → Stands t later
   stands_on whole since _ rest _ (here _ _) stands = stands
   stands_on whole since after rest left (one_more _ events _ _ middle _ step next) stands =
       stands_on whole (since ++ events) after middle left next (add_stands since events stands (step_adds t since whole events rest middle step))
@@ -120,5 +120,5 @@ module _ (t : Transition) (keeps : KeepsToNodes t) where
     steady = λ unaborted n on. ap (last_sign n) (append-nil t.planned_at) ∙ online_joined t.cluster n t.planned_at on;
   }
 
-  pub stands_always : (whole : Bool) (rest left : Option (List Answer)) (later : List Event) → Orderly t.planned_at → Goes t whole [] rest later left → Stands t later
+  pub stands_always : (whole : Bool) (rest left : Option (List Answer)) (later : List Event) → Orderly t.planned_at → GoesBySteps t whole [] rest later left → Stands t later
   stands_always whole rest left after orderly goes = stands_on whole [] after rest left goes (at_first orderly)

@@ -10,7 +10,7 @@ use Rattle.cluster_types.specs.declared.run.RunLine.{RunLine}
 use Rattle.cluster_types.specs.Runs.{RunStanding, due, amid, idle, RunsOn, plans, goes, completes, aborts, answers, Runs, here, one_more, IsOver, IsCutAt, IsCutRun, IsWholeRun, journal_at}
 use Rattle.cluster_types.specs.Sources.{Says}
 use Rattle.cluster_types.specs.Steps.{Transition, StepsOn, begins, takes, is_silent, Applies, IsWaiting, idling}
-use Rattle.run_safety.specs.TwoRuns.{AreAnswersTold, GoesOn, AreOnOneWay, this_first, other_first}
+use Rattle.run_safety.specs.TwoRuns.{AreAnswersTold, RunGoesOn, AreOnOneWay, this_first, other_first}
 use Rattle.run_safety.specs.OnePlan.{PlansAreOne}
 use Rattle.run_safety.proofs.OneRun.{one_way, runs_told}
 use Rattle.run_safety.proofs.OneStep.{ended_waits, unsettled}
@@ -55,10 +55,10 @@ module _ (c : Cluster) (promotions : List Promotion) (whole : Bool) where
   module _ (one_plan : PlansAreOne c promotions) (first : RunStanding) (rest : Option (List Answer)) (told : AreAnswersTold rest) where
     -- a run that is stuck goes on from each other
     pub before_stuck : (p q : RunStanding) (left right : Option (List Answer)) (lines others : List RunLine) → Runs c promotions whole first rest lines p left
-        → Runs c promotions whole first rest others q right → IsStuck q right → GoesOn c promotions whole lines p left others q right
+        → Runs c promotions whole first rest others q right → IsStuck q right → RunGoesOn c promotions whole lines p left others q right
     before_stuck p q left right lines others one two stuck = by (one_way c promotions whole one_plan first p q rest left right lines others told one two)
       where
-        by : AreOnOneWay c promotions whole lines p left others q right → GoesOn c promotions whole lines p left others q right
+        by : AreOnOneWay c promotions whole lines p left others q right → RunGoesOn c promotions whole lines p left others q right
         by (this_first g) = g
         by (other_first g) =
             let same = stuck_here q p right left g.more stuck g.runs in

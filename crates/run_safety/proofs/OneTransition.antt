@@ -8,19 +8,19 @@ use Rattle.cluster_types.specs.declared.journal.Answer.{Answer}
 use Rattle.cluster_types.specs.declared.journal.Event.{Event}
 use Rattle.cluster_types.specs.declared.journal.Promotion.{Promotion}
 use Rattle.cluster_types.specs.Runs.{amid, goes, Runs, here, one_more}
-use Rattle.cluster_types.specs.Steps.{Transition, Goes, HasEnded, here as there, one_more as one_further}
+use Rattle.cluster_types.specs.Steps.{Transition, GoesBySteps, HasEnded, here as there, one_more as one_further}
 use Rattle.cluster_types.specs.Texts.{event_lines}
 use Rattle.run_safety.specs.TwoRuns.{AreAnswersTold, IsPartOfRun}
 use Rattle.run_safety.proofs.OneRun.{step_told}
 use Rattle.run_safety.proofs.OneStep.{ended_goes, step_one}
 
 module _ (t : Transition) (whole : Bool) where
-  moved : (since events others later : List Event) (middle other left : Option (List Answer)) → events ≡ others → middle ≡ other → Goes t whole (since ++ others) other later left
-      → Goes t whole (since ++ events) middle later left
+  moved : (since events others later : List Event) (middle other left : Option (List Answer)) → events ≡ others → middle ≡ other → GoesBySteps t whole (since ++ others) other later left
+      → GoesBySteps t whole (since ++ events) middle later left
   moved since events others later middle other left e f rest =
-      subst (λ z. Goes t whole (since ++ z) middle later left) (sym e) (subst (λ z. Goes t whole (since ++ others) z later left) (sym f) rest)
+      subst (λ z. GoesBySteps t whole (since ++ z) middle later left) (sym e) (subst (λ z. GoesBySteps t whole (since ++ others) z later left) (sym f) rest)
 
-  pub end_one : (since p q : List Event) (rest left right : Option (List Answer)) → AreAnswersTold rest → Goes t whole since rest p left → Goes t whole since rest q right → HasEnded t p → HasEnded t q
+  pub end_one : (since p q : List Event) (rest left right : Option (List Answer)) → AreAnswersTold rest → GoesBySteps t whole since rest p left → GoesBySteps t whole since rest q right → HasEnded t p → HasEnded t q
       → (p ≡ q) × (left ≡ right)
   end_one since _ _ rest _ _ told (there _ _) (there _ _) over also = (refl, refl)
   end_one since _ q rest _ right told (there _ _) (one_further _ others _ _ other _ step behind) over also = ended_goes t since whole others rest other over step
@@ -31,7 +31,7 @@ module _ (t : Transition) (whole : Bool) where
       (moved since events others q middle other right same.0 same.1 behind) over also
 
 module _ (c : Cluster) (promotions : List Promotion) (whole : Bool) (k : ℕ) (t : Transition) where
-  pub goes_runs : (since later : List Event) (rest left : Option (List Answer)) → Goes t whole since rest later left → IsPartOfRun c promotions whole k t since later rest left
+  pub goes_runs : (since later : List Event) (rest left : Option (List Answer)) → GoesBySteps t whole since rest later left → IsPartOfRun c promotions whole k t since later rest left
   goes_runs since _ rest _ (there _ _) = record { events = []; joined = sym (append-nil since); runs = here (amid k t since) rest }
   goes_runs since later rest left (one_further _ events _ _ middle _ step more) =
       let part = goes_runs (since ++ events) later middle left more in

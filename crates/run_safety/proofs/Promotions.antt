@@ -18,8 +18,8 @@ use Rattle.cluster_types.specs.Journals.{Orderly}
 use Rattle.cluster_types.specs.LawfulTables.{role_count}
 use Rattle.cluster_types.specs.May.{may_be_promoted, is_left_promoted}
 use Rattle.cluster_types.specs.Precedence.{op_cell}
-use Rattle.cluster_types.specs.Safety.{HasRoomForPromoted, NoSecondPromotion}
-use Rattle.cluster_types.specs.Steps.{Transition, Begins, Goes, journal}
+use Rattle.cluster_types.specs.Safety.{MayBePromotedOnFewOthers, NoSecondPromotion}
+use Rattle.cluster_types.specs.Steps.{Transition, Begins, GoesBySteps, journal}
 use Rattle.cluster_types.specs.Tables.{Targets, is_promoted_target}
 use Rattle.run_safety.proofs.Begins.{each_begin}
 use Rattle.run_safety.proofs.Calm.{Calm}
@@ -66,7 +66,7 @@ module _ (t : Transition) (targets : Targets) (carries : Carries t targets) (sou
             (done (Operation op.Demote r m 0 role.Started) demoted) (done (Fence m) first.fenced))
             (later (is_promotable t.cluster r) _ up)
 
-    adds_no_promoted : HasRoomForPromoted t since (record { leaf = r; node = n })
+    adds_no_promoted : MayBePromotedOnFewOthers t.cluster (record { leaf = r; node = n }) (journal t since)
     adds_no_promoted =
         let counted = others_fewer (λ m. may_be_promoted t.cluster r m (journal t since)) (λ m. is_promoted_target (targets r m)) n (length t.cluster.nodes) given_here.node
         promoted_here (λ m low other up. targeted m low up) in
@@ -74,7 +74,7 @@ module _ (t : Transition) (targets : Targets) (carries : Carries t targets) (sou
         let within = cap_promoted t.cluster t.planned_at r in
         omega (arith, counted, capped, within)
 
-  no_promotion : (since : List Event) (k : ℕ) (a : Action) → Calm t since → Begins t since k a → IfSome (op_cell op.Promote a) (HasRoomForPromoted t since)
+  no_promotion : (since : List Event) (k : ℕ) (a : Action) → Calm t since → Begins t since k a → IfSome (op_cell op.Promote a) (λ at. MayBePromotedOnFewOthers t.cluster at (journal t since))
   no_promotion since k (Operation op.Promote r n i held) calm begins = adds_no_promoted since k r n i held calm begins
   no_promotion since k (Operation op.Start r n i held) calm begins = tt
   no_promotion since k (Operation op.Stop r n i held) calm begins = tt
@@ -85,5 +85,5 @@ module _ (t : Transition) (targets : Targets) (carries : Carries t targets) (sou
   no_promotion since k (MigrateTo r n m) calm begins = tt
   no_promotion since k (MigrateFrom r n m) calm begins = tt
 
-  pub no_second_promotion : (whole : Bool) (rest left : Option (List Answer)) (later : List Event) → Goes t whole [] rest later left → NoSecondPromotion t later
-  no_second_promotion = each_begin t (λ before k a. IfSome (op_cell op.Promote a) (HasRoomForPromoted t before)) no_promotion
+  pub no_second_promotion : (whole : Bool) (rest left : Option (List Answer)) (later : List Event) → GoesBySteps t whole [] rest later left → NoSecondPromotion t later
+  no_second_promotion = each_begin t (λ before k a. IfSome (op_cell op.Promote a) (λ at. MayBePromotedOnFewOthers t.cluster at (journal t before))) no_promotion

@@ -10,7 +10,7 @@ use Rattle.cluster_types.specs.declared.run.RunLine.{RunLine}
 use Rattle.cluster_types.specs.Journals.{Orderly, in_flight_by_begin}
 use Rattle.cluster_types.specs.Runs.{RunStanding, due, amid, idle, RunsOn, plans, goes, completes, aborts, answers, Runs, IsBetween, journal_at}
 use Rattle.cluster_types.specs.Safety.{IsAtRest, IsSafeAt, IsSafeRun}
-use Rattle.cluster_types.specs.Steps.{Goes, here as none_yet, action_at, answer_events, idling}
+use Rattle.cluster_types.specs.Steps.{GoesBySteps, here as none_yet, action_at, answer_events, idling}
 use Rattle.cluster_types.proofs.SourceLaws.{goes-more, none-in_flight, step-untold}
 use Rattle.cluster_types.proofs.JournalLaws.{nothing_begun}
 use Rattle.run_safety.proofs.AtRest.{nothing_left}
@@ -26,7 +26,7 @@ module _ (c : Cluster) (promotions : List Promotion) (whole : Bool) where
   -- between two transitions nothing is in flight; amid one it went on from a plan for such a journal
   abbrev Rests : RunStanding → Type 0
   Rests (due k es) = in_flight_by_begin es ≡ []
-  Rests (amid k t since) = (in_flight_by_begin t.planned_at ≡ []) × Goes t whole [] None since None
+  Rests (amid k t since) = (in_flight_by_begin t.planned_at ≡ []) × GoesBySteps t whole [] None since None
   Rests (idle k es) = in_flight_by_begin es ≡ []
 
   one_rests : (at next : RunStanding) (rest left : Option (List Answer)) (lines : List RunLine) → RunsOn c promotions whole at rest lines next left → Rests at → Rests next
@@ -41,11 +41,11 @@ module _ (c : Cluster) (promotions : List Promotion) (whole : Bool) where
       ∙ nothing_begun (answer_events t [] given) (silent t [] (answer_events t [] given) (λ k a begins. no_action c es k a begins.action) (answer_adds t [] given applies))
 
   pub none_flies : (first : List Event) (at : RunStanding) (rest left : Option (List Answer)) (lines : List RunLine) → in_flight_by_begin first ≡ []
-      → Runs c promotions whole (due 1 first) rest lines at left → IsBetween c promotions whole at → in_flight_by_begin (journal_at at) ≡ []
+      → Runs c promotions whole (due 1 first) rest lines at left → IsBetween at → in_flight_by_begin (journal_at at) ≡ []
   none_flies first at rest left lines none runs = by at
       (along c promotions whole (λ p _ _. Rests p) (λ p q middle behind before more step h. one_rests p q middle behind more step h) (due 1 first) at rest left [] lines runs none)
     where
-      by : (at : RunStanding) → Rests at → IsBetween c promotions whole at → in_flight_by_begin (journal_at at) ≡ []
+      by : (at : RunStanding) → Rests at → IsBetween at → in_flight_by_begin (journal_at at) ≡ []
       by (due k es) h between = h
       by (amid k t since) h between = absurd between
       by (idle k es) h between = h
@@ -61,10 +61,10 @@ module _ (c : Cluster) (promotions : List Promotion) (whole : Bool) where
       by (idle k es) h = h.0
 
   pub at_rest : (es : List Event) (at : RunStanding) (rest left : Option (List Answer)) (lines : List RunLine) → IsSafeRun c promotions whole es rest
-      → Runs c promotions whole (due 1 es) rest lines at left → IsBetween c promotions whole at → IsAtRest (journal_at at)
+      → Runs c promotions whole (due 1 es) rest lines at left → IsBetween at → IsAtRest (journal_at at)
   at_rest es at rest left lines safe runs = by at (safe at lines left runs)
     where
-      by : (at : RunStanding) → IsSafeAt c promotions at → IsBetween c promotions whole at → IsAtRest (journal_at at)
+      by : (at : RunStanding) → IsSafeAt c promotions at → IsBetween at → IsAtRest (journal_at at)
       by (due k es) h between = h
       by (amid k t since) h between = absurd between
       by (idle k es) h between = h

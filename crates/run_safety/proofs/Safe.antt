@@ -13,7 +13,7 @@ use Rattle.cluster_types.specs.Fields.{copies, is_cloned, promoted_copies}
 use Rattle.cluster_types.specs.Journals.{Orderly, in_flight_by_begin}
 use Rattle.cluster_types.specs.May.{may_be_running, may_be_promoted}
 use Rattle.cluster_types.specs.Safety.{EndsInTargets, IsSafe, MigrationsAlone, NoForbiddenNeighbour, NoSecondCopy, NoSecondPromotion, count_of_others}
-use Rattle.cluster_types.specs.Steps.{Transition, Goes, HasEnded, numbers_in_flight, has_aborted, journal}
+use Rattle.cluster_types.specs.Steps.{Transition, GoesBySteps, HasEnded, numbers_in_flight, has_aborted, journal}
 use Rattle.cluster_types.specs.Tables.{Targets, targets_of}
 use Rattle.cluster_types.proofs.SafetyLaws.{eager}
 use Rattle.cluster_types.proofs.StepLaws.{begins-its_own, predecessors-first}
@@ -33,7 +33,7 @@ use Rattle.run_safety.proofs.Planned.{carries_plan, sound_plan, upward}
 use Rattle.run_safety.proofs.Promotions.{no_second_promotion}
 
 module _ (promotions : List Promotion) (placed : Placed) (t : Transition) (of : IsOfPlan promotions placed t)
-    (whole : Bool) (rest left : Option (List Answer)) (later : List Event) (goes : Goes t whole [] rest later left) where
+    (whole : Bool) (rest left : Option (List Answer)) (later : List Event) (goes : GoesBySteps t whole [] rest later left) where
   abbrev targets : Targets
   targets = targets_of placed.table
 

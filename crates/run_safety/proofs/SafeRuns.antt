@@ -12,7 +12,7 @@ use Rattle.cluster_types.specs.declared.run.RunLine.{RunLine}
 use Rattle.cluster_types.specs.Plans.{IsPlan, transition_of}
 use Rattle.cluster_types.specs.Runs.{RunStanding, due, amid, idle, RunsOn, plans, goes, completes, aborts, answers, Runs, here, one_more}
 use Rattle.cluster_types.specs.Safety.{IsAtRest, IsSafeAt, IsSafeRun}
-use Rattle.cluster_types.specs.Steps.{Transition, Begins, Goes, StepsOn, here as none_yet, action_at, answer_events, numbers_in_flight, journal, idling, Applies}
+use Rattle.cluster_types.specs.Steps.{Transition, Begins, GoesBySteps, StepsOn, here as none_yet, action_at, answer_events, numbers_in_flight, journal, idling, Applies}
 use Rattle.cluster_types.specs.Valid.{IsValid}
 use Rattle.cluster_types.proofs.SourceLaws.{goes-more, none-in_flight, step-untold}
 use Rattle.cluster_types.proofs.StepLaws.{begins_nothing}
@@ -38,7 +38,7 @@ module _ (c : Cluster) (promotions : List Promotion) (whole : Bool) (valid : IsV
   -- a transition of the run: that of a plan for a journal at rest, and how far it went
   pub data IsUnderWay : Transition → List Event → Type 0 where
     planned : (es : List Event) (placed : Placed) (actions : List Action) → IsAtRest es → IsPlan c es promotions placed actions → (since : List Event)
-        → Goes (transition_of c es actions) whole [] None since None → IsUnderWay (transition_of c es actions) since
+        → GoesBySteps (transition_of c es actions) whole [] None since None → IsUnderWay (transition_of c es actions) since
 
   abbrev pub StandsAt : RunStanding → Type 0
   StandsAt (due k es) = IsAtRest es

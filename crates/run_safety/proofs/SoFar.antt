@@ -32,7 +32,7 @@ module _ (c : Cluster) (promotions : List Promotion) (whole : Bool) where
       → RunsOn c promotions whole middle behind more next left → Runs c promotions whole at rest (lines ++ more) next left
   runs_more at middle next rest behind left lines more runs step = runs_joined at middle next rest behind left lines more runs (runs_once middle next behind left more step)
 
-  closes_runs : (at later : RunStanding) (rest : Option (List Answer)) (lines : List RunLine) → EndsByLine c promotions whole at lines later → Runs c promotions whole at rest lines later rest
+  closes_runs : (at later : RunStanding) (rest : Option (List Answer)) (lines : List RunLine) → EndsByLine at lines later → Runs c promotions whole at rest lines later rest
   closes_runs at _ rest _ (not_yet _) = here at rest
   closes_runs _ _ rest _ (complete k t since over h) = runs_once _ _ rest rest _ (completes k t since rest over h)
   closes_runs _ _ rest _ (aborted k t since over h) = runs_once _ _ rest rest _ (aborts k t since rest over h)
@@ -60,7 +60,7 @@ step_asks t since _ rest left e waiting (takes _ _ given said taken) = nothing_s
 step_asks t since _ rest left e waiting (is_silent _ _ k a said ends) = says_something (Some []) left tt (subst (λ z. Says false z None left) e said)
 
 module _ (c : Cluster) (promotions : List Promotion) where
-  asks_stuck : (at : RunStanding) (rest : Option (List Answer)) → rest ≡ Some [] → IsAsking c promotions false at → IsStuck c promotions false at rest
+  asks_stuck : (at : RunStanding) (rest : Option (List Answer)) → rest ≡ Some [] → IsAsking at → IsStuck c promotions false at rest
   asks_stuck _ rest e asking _ _ _ (plans k es _ placed actions plan) = asking
   asks_stuck _ rest e asking _ _ left (goes k t since events _ _ step) = step_asks t since events rest left e asking step
   asks_stuck _ rest e asking _ _ _ (completes k t since _ ended unaborted) = ended_waits t since ended asking

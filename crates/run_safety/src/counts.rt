@@ -34,8 +34,9 @@ pub fn no_run_is_whole_where_answers_lack()
         → AreAnswersTold rest → ¬ IsWholeRun c promotions false es rest lines left }
 {}
 
-/// The lines up to a place between two transitions end with the line of a transition that is complete or aborted, or with the answer behind a complete one.
+/// The lines up to a place between two transitions end with the line of a transition that is complete or aborted, or with the answer behind a complete one; or
+/// there are none yet.
 pub fn lines_between_transitions_end_one()
     ensures { (c : ClusterOf) (promotions : List PromotionOf) (whole : Bool) (es : List EventOf) (at : RunStanding) (rest left : Option (List AnswerOf)) (lines : List LineOf)
-        → Runs c promotions whole (due 1 es) rest lines at left → IsBetween c promotions whole at → EndsBetween es at lines }
+        → Runs c promotions whole (due 1 es) rest lines at left → IsBetween at → EndsBetween es at lines }
 {}

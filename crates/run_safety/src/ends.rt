@@ -6,7 +6,7 @@ ghost use Rattle.cluster_types.specs.declared.journal.Event.{Event as EventOf};
 ghost use Rattle.cluster_types.specs.declared.journal.Promotion.{Promotion as PromotionOf};
 ghost use Rattle.cluster_types.specs.declared.placement.Placed.{Placed as PlacedOf};
 ghost use Rattle.cluster_types.specs.Safety.{EndsInTargets};
-ghost use Rattle.cluster_types.specs.Steps.{Goes, HasEnded, Transition, has_aborted};
+ghost use Rattle.cluster_types.specs.Steps.{GoesBySteps, HasEnded, Transition, has_aborted};
 ghost use Rattle.cluster_types.specs.Tables.{targets_of};
 ghost use Rattle.run_safety.specs.OfPlans.{IsOfPlan};
 
@@ -15,6 +15,6 @@ ghost use Rattle.run_safety.specs.OfPlans.{IsOfPlan};
 /// and each node that was to be fenced is offline.
 pub fn complete_transitions_end_in_targets()
     ensures { (promotions : List PromotionOf) (placed : PlacedOf) (t : Transition) (whole : Bool) (rest left : Option (List AnswerOf)) (later : List EventOf)
-        → IsOfPlan promotions placed t → Goes t whole [] rest later left → HasEnded t later → has_aborted t later ≡ false
+        → IsOfPlan promotions placed t → GoesBySteps t whole [] rest later left → HasEnded t later → has_aborted t later ≡ false
         → EndsInTargets t (targets_of placed.table) later }
 {}

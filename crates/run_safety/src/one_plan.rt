@@ -1,4 +1,4 @@
-//! A journal has one plan.
+//! A journal has one plan at most.
 
 ghost use Rattle.std.specs.Prelude.{List};
 ghost use Rattle.cluster_types.specs.declared.cluster.Cluster.{Cluster as ClusterOf};

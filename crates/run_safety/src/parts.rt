@@ -22,7 +22,7 @@ pub fn stopped_runs_begin_the_whole_run()
         → IsFront ((told ++ call) ++ closing) others × IsFront left right }
 {}
 
-/// Where the answers to come are known to be not all, there is one run up to where all were taken and one more is asked for.
+/// Where the answers to come are known to be not all, there is one run at most up to where all were taken and one more is asked for.
 pub fn runs_so_far_are_unique()
     ensures { (c : ClusterOf) (promotions : List PromotionOf) (es left right : List EventOf) (rest : Option (List AnswerOf)) (lines others : List LineOf)
         → AreAnswersTold rest → IsRunSoFar c promotions false es rest lines left (Some []) → IsRunSoFar c promotions false es rest others right (Some [])

@@ -9,14 +9,14 @@ ghost use Rattle.cluster_types.specs.declared.run.RunLine.{RunLine as LineOf};
 ghost use Rattle.cluster_types.specs.Runs.{RunStanding, due, Runs, IsCutRun, IsWholeRun, journal_at};
 ghost use Rattle.run_safety.specs.TwoRuns.{AreAnswersTold, IsFront};
 
-/// An input has one whole run, where its answers are told and a journal has one plan.
+/// Over answers that are told a journal has one whole run at most: its lines, and the journal that it leaves.
 pub fn whole_runs_are_unique()
     ensures { (c : ClusterOf) (promotions : List PromotionOf) (whole : Bool) (es : List EventOf) (rest : Option (List AnswerOf)) (left right : List EventOf) (lines others : List LineOf)
         → AreAnswersTold rest → IsWholeRun c promotions whole es rest lines left → IsWholeRun c promotions whole es rest others right
         → (lines ≡ others) × (left ≡ right) }
 {}
 
-/// So it is cut in one way.
+/// Over answers that are told a run is cut in at most one way: by one answer, behind one list of lines.
 pub fn cut_runs_are_unique()
     ensures { (c : ClusterOf) (promotions : List PromotionOf) (whole : Bool) (es : List EventOf) (rest : Option (List AnswerOf)) (left right : List EventOf) (lines others : List LineOf)
         (given other : AnswerOf) (behind unread : Option (List AnswerOf))
@@ -24,14 +24,14 @@ pub fn cut_runs_are_unique()
         → (lines ≡ others) × (left ≡ right) × (given ≡ other) × (behind ≡ unread) }
 {}
 
-/// Where it has a whole run, it isn't cut.
+/// Where it has a whole run, none is cut.
 pub fn whole_runs_are_not_cut()
     ensures { (c : ClusterOf) (promotions : List PromotionOf) (whole : Bool) (es : List EventOf) (rest : Option (List AnswerOf)) (left right : List EventOf) (lines others : List LineOf)
         (given : AnswerOf) (behind : Option (List AnswerOf))
         → AreAnswersTold rest → IsWholeRun c promotions whole es rest lines left → ¬ IsCutRun c promotions whole es rest others right given behind }
 {}
 
-/// Wherever a run stands, its lines and its journal are how those of the whole run begin.
+/// Wherever a run over told answers stands, its lines and its journal are how those of the whole run begin.
 pub fn runs_begin_the_whole_run()
     ensures { (c : ClusterOf) (promotions : List PromotionOf) (whole : Bool) (es : List EventOf) (rest : Option (List AnswerOf)) (at : RunStanding) (behind : Option (List AnswerOf))
         (left : List EventOf) (lines others : List LineOf)

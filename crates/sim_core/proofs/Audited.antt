@@ -11,7 +11,7 @@ use Rattle.cluster_types.specs.declared.journal.Answer.{Answer}
 use Rattle.cluster_types.specs.declared.journal.Journal.{Journal}
 use Rattle.cluster_types.specs.declared.run.RunLine.{RunLine}
 use Rattle.cluster_types.specs.Runs.{due, Runs, IsCutRun, IsWholeRun}
-use Rattle.graph_exec.specs.Replays.{IsStopped, IsStoppedAsking, IsTold, setting, sight}
+use Rattle.graph_exec.specs.Replays.{IsStopped, IsStoppedAsking, IsRunTold, setting, sight}
 use Rattle.graph_exec.specs.RunEnds.{unexpected, with_all}
 use Rattle.graph_exec.specs.Scripts.{ScriptOf}
 use Rattle.input_reading.specs.declared.run.text.RunTextLine.{RunTextLine}
@@ -54,7 +54,7 @@ module _ (c : Cluster) (journal : Journal) (lines : List RunTextLine) (after : �
   module _ (steady over over_now : Bool) (answers : List Answer) (are : answers ≡ answers_of_lines (said lines)) (rest : Option (List Answer)) (most : ℕ) (left : Journal)
       (Stopped : List RunLine → Option RunLine → Type 0) (v : Verdict) where
     -- it is told the whole run
-    pub whole_found : IsTold (PassesLines start now) Stopped (setting c journal.promotions true steady) journal.events (sight (Some answers) over) (sight rest over_now) most left with_all
+    pub whole_found : IsRunTold (PassesLines start now) Stopped (setting c journal.promotions true steady) journal.events (sight (Some answers) over) (sight rest over_now) most left with_all
         → (now.place ≡ length now.lines.now → v ≡ Yes)
         → (now.place < length now.lines.now → v ≡ No (line_number_at now.lines.now now.place after) clause.Answer)
         → Judges c journal lines after v
@@ -91,7 +91,7 @@ module _ (c : Cluster) (journal : Journal) (lines : List RunTextLine) (after : �
 
     -- the run is cut
     pub cut_found : (given : Answer)
-        → IsTold (PassesLines start now) Stopped (setting c journal.promotions true steady) journal.events (sight (Some answers) over) (sight rest over_now) most left (unexpected given)
+        → IsRunTold (PassesLines start now) Stopped (setting c journal.promotions true steady) journal.events (sight (Some answers) over) (sight rest over_now) most left (unexpected given)
         → v ≡ No (line_number_at now.lines.now now.place after) clause.Answer → Judges c journal lines after v
     cut_found given w is_no =
         rw is_no (record {

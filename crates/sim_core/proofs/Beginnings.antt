@@ -44,7 +44,7 @@ amid old new input (Some unread) e a = record {
         whole ∙ ap (λ (t : List ℕ). t ++ (new.held ++ unread)) a.gone_on.taken.text_is;
     whole = (a.gone_on.taken.whole a.not_ended).1;
   };
-  goes_on = subst (λ (r : Reading). heads.AllGoOnBehind r.room r.longest r.next a.gone_on.taken.lines) e a.gone_on.goes_on;
+  goes_on = subst (λ (r : Reading). heads.AllGoOnBehind r.longest r.room r.next a.gone_on.taken.lines) e a.gone_on.goes_on;
   no_answer = record {
     unfinished = a.none_whole;
     undecided = subst (λ (n : ℕ). IsUndecided n longest_line new.held) room (subst (λ (n : ℕ). IsUndecided new.room n new.held) size a.undecided);

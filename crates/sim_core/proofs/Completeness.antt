@@ -9,7 +9,7 @@ use Rattle.sim_core.specs.Answers.{WordAnswers, InputHasRoom, IsCompleteAnswer, 
 use Rattle.sim_core.specs.LiveAnswers.{SaysLive, HasWrittenReplay}
 use Rattle.input_reading.specs.Reading.{most_bytes}
 use Rattle.sim_core.specs.Replay.{IsReplayOutput}
-use Rattle.sim_core.specs.Commands.{Intake, nothing, whole, intake, Gets}
+use Rattle.sim_core.specs.Commands.{Intake, nothing, whole_input, intake, Gets}
 use Rattle.sim_core.proofs.OneOutput.{gets_one}
 
 -- the answer is one that the input gets
@@ -48,9 +48,9 @@ module _ (input : List ℕ) (left before after : Option (List ℕ)) where
 -- with each word
 module _ (input : List ℕ) (left before after : Option (List ℕ)) (status : Status) (memory : status ≢ NoMemory) (read : status ≢ ReadFault) (write : status ≢ WriteFault) where
   -- one that reads its input to its end
-  whole_due : (word : Command) → length input ≤ most_bytes → SaysOf whole (Gets word) input left before after status → IsStatusDue (Gets word input) status
+  whole_due : (word : Command) → length input ≤ most_bytes → SaysOf whole_input (Gets word) input left before after status → IsStatusDue (Gets word input) status
   whole_due word room says =
-      is_due (Gets word input) input left before after whole (λ taken. omega (arith, taken, room)) status says.taken says.written memory read write
+      is_due (Gets word input) input left before after whole_input (λ taken. omega (arith, taken, room)) status says.taken says.written memory read write
 
   -- one that reads nothing
   free_due : (word : Command) → SaysOf nothing (Gets word) input left before after status → IsStatusDue (Gets word input) status

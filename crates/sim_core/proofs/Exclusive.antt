@@ -12,14 +12,14 @@ use Rattle.run_safety.proofs.Beginnings.{begins_whole}
 use Rattle.run_safety.proofs.OneEnd.{whole_one, whole_or_cut}
 use Rattle.run_safety.proofs.PlansAreOne.{plans_one}
 use Rattle.sim_core.specs.declared.verdict.Clause.{Clause}
-use Rattle.sim_core.specs.LawfulRuns.{IsCutRunOfLines, IsFaultyPlace, IsLawfulRun, IsOther, IsUndue, IsWholeRunOfLines, answers_of_lines, other, undue}
+use Rattle.sim_core.specs.LawfulRuns.{IsCutRunOfLines, IsFaultyPlace, IsLawfulRun, PrintsAnother, IsUndue, IsWholeRunOfLines, answers_of_lines, other, undue}
 
 -- what stands at a place of the front of a list
 pub in_front : {X : Type 0} (xs more : List X) (i : ℕ) (x : X) → slice_get xs i ≡ Some x → slice_get (xs ++ more) i ≡ Some x
 in_front xs more i x e = slice_get_left xs more i (slice_get_within xs i x e) ∙ e
 
 module _ (c : Cluster) (journal : Journal) (lines : List RunLine) (lawful : IsLawfulRun c journal lines) where
-  not_other : (place : ℕ) (kind : Clause) → IsOther c journal lines place kind → ⊥
+  not_other : (place : ℕ) (kind : Clause) → PrintsAnother c journal lines place kind → ⊥
   not_other place kind o =
       let front = (begins_whole c journal.promotions true (plans_one c journal.promotions) journal.events (Some (answers_of_lines lines)) tt o.so_far.at o.so_far.behind o.printed o.so_far.runs
       lawful.left lines lawful.whole).0 in

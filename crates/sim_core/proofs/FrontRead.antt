@@ -42,8 +42,8 @@ pub record BringTheSame (c : Cluster) (longest moment before line room : ℕ) (g
   pub first : List (List (List ℕ))
   pub more : List (List (List ℕ))
   pub parts : groups ≡ first ++ more
-  pub same : coming c longest (record { moment = moment; before = before; line = line }) room first
-      ≡ record { results = (coming c longest (record { moment = moment; before = before; line = line }) room groups).results; stop = None }
+  pub same : coming c longest room (record { moment = moment; before = before; line = line }) first
+      ≡ record { results = (coming c longest room (record { moment = moment; before = before; line = line }) groups).results; stop = None }
 
 module _ (c : Cluster) (longest moment before line room : ℕ) (group : List (List ℕ)) (groups : List (List (List ℕ))) where
   -- of the lines behind the first

@@ -173,7 +173,7 @@ module _ (text bytes : List ℕ) (next room : ℕ) (is : head_in text ≡ heads.
   pub come_says : (head : Head) → SaysComing head.cluster (moment_of head.journal.events) next [] room (raw_lines behind) (coming_behind text bytes head next room)
   come_says head =
       subst (λ (left : List ℕ). SaysComing head.cluster (moment_of head.journal.events) next [] room (raw_lines behind)
-      (coming head.cluster 1048576 (record { moment = moment_of head.journal.events; before = 0; line = next }) room (raw_lines left))) (sym rest_is)
+      (coming head.cluster 1048576 room (record { moment = moment_of head.journal.events; before = 0; line = next }) (raw_lines left))) (sym rest_is)
       (coming_is head.cluster (moment_of head.journal.events) room (record { moment = moment_of head.journal.events; before = 0; line = next }) [] (raw_lines behind) (own_lines behind)
       (let same : moment_of head.journal.events ≡ moment_of head.journal.events + 0 = omega arith in same) refl)
 

@@ -12,7 +12,7 @@ use Rattle.live_run.specs.declared.live_end.LiveEnd.{LiveEnd}
 use Rattle.live_run.specs.declared.live_end.LiveEnd.TheVariants as end
 use Rattle.live_run.specs.Ends.{EndGets}
 use Rattle.live_run.specs.RunReached as run
-use Rattle.live_run.specs.RunReached.{Reaches, results_behind}
+use Rattle.live_run.specs.RunReached.{ReachesEnd, results_behind}
 use Rattle.input_reading.specs.declared.input.reading.Head.{Head}
 use Rattle.sim_core.specs.declared.status.Status.{Status}
 use Rattle.sim_core.specs.declared.status.Status.TheVariants.{ReadFault, WriteFault}
@@ -62,7 +62,7 @@ module _ (input : List ℕ) (head : Head) (reading : Reading) (from left before 
     became = became;
   }
 
-  reached : (how : LiveEnd) → Reaches head.cluster head.journal reading k.unread left before after how → (how ≡ end.Done → IfSome left (λ l. l ≡ []))
+  reached : (how : LiveEnd) → ReachesEnd head.cluster head.journal reading k.unread left before after how → (how ≡ end.Done → IfSome left (λ l. l ≡ []))
       → SaysLive input left before after (status_of how)
   reached end.Done r at_end = record { at_end = at_end refl; written = record { text = r.text; due = text_of_run end.Done r.text r.gets; added = r.added } }
   reached end.Unexpected r at_end = record { text = r.text; due = text_of_run end.Unexpected r.text r.gets; added = r.added }
@@ -73,7 +73,7 @@ module _ (input : List ℕ) (head : Head) (reading : Reading) (from left before 
   reached end.NoMemory r at_end = between_two (behind_the_head run.HasNoMemory r)
 
 pub run_says : (before_all from left before after : Option (List ℕ)) (head : Head) (reading : Reading) (how : LiveEnd) → IfSome before_all (λ input. IsBehind input head reading from)
-    → IfSome from (λ unread. Reaches head.cluster head.journal reading unread left before after how) → (how ≡ end.Done → IfSome left (λ l. l ≡ []))
+    → IfSome from (λ unread. ReachesEnd head.cluster head.journal reading unread left before after how) → (how ≡ end.Done → IfSome left (λ l. l ≡ []))
     → IfSome before_all (λ input. SaysLive input left before after (status_of how))
 run_says None from left before after head reading how k r at_end = tt
 run_says (Some input) None left before after head reading how k r at_end = let none = k.left_is in absurd cc
@@ -81,7 +81,7 @@ run_says (Some input) (Some unread) left before after head reading how k r at_en
     let given : Some unread ≡ Some k.unread = k.left_is in
     let same : unread ≡ k.unread = cc in
     reached input head reading (Some unread) left before after k how
-    (subst (λ (u : List ℕ). Reaches head.cluster head.journal reading u left before after how) same r) at_end
+    (subst (λ (u : List ℕ). ReachesEnd head.cluster head.journal reading u left before after how) same r) at_end
 
 -- what is said of the source as it is lent on: that of the reader, of the answers and at the end
 module _ {S : Type 0} (left : S → Option (List ℕ)) where
@@ -97,13 +97,13 @@ module _ {S : Type 0} (left : S → Option (List ℕ)) where
   -- what became of a run over the answers of a reader, of the source that comes back
   pub reaches_by : (asked begun done final : S) (before after : Option (List ℕ)) (cluster other : Cluster) (journal : Journal) (reading at : Reading) (how : LiveEnd)
       → asked ≡ begun → final ≡ done → at ≡ reading → cluster ≡ other
-      → IfSome (left asked) (λ unread. Reaches cluster journal at unread (left done) before after how)
-      → IfSome (left begun) (λ unread. Reaches other journal reading unread (left final) before after how)
+      → IfSome (left asked) (λ unread. ReachesEnd cluster journal at unread (left done) before after how)
+      → IfSome (left begun) (λ unread. ReachesEnd other journal reading unread (left final) before after how)
   reaches_by asked begun done final before after cluster other journal reading at how asks back same of reached =
-      subst (λ (s : S). IfSome (left begun) (λ unread. Reaches other journal reading unread (left s) before after how)) (sym back)
-      (subst (λ (s : S). IfSome (left s) (λ unread. Reaches other journal reading unread (left done) before after how)) asks
-      (subst (λ (r : Reading). IfSome (left asked) (λ unread. Reaches other journal r unread (left done) before after how)) same
-      (subst (λ (x : Cluster). IfSome (left asked) (λ unread. Reaches x journal at unread (left done) before after how)) of reached)))
+      subst (λ (s : S). IfSome (left begun) (λ unread. ReachesEnd other journal reading unread (left s) before after how)) (sym back)
+      (subst (λ (s : S). IfSome (left s) (λ unread. ReachesEnd other journal reading unread (left done) before after how)) asks
+      (subst (λ (r : Reading). IfSome (left asked) (λ unread. ReachesEnd other journal r unread (left done) before after how)) same
+      (subst (λ (x : Cluster). IfSome (left asked) (λ unread. ReachesEnd x journal at unread (left done) before after how)) of reached)))
 
   -- what a run behind a head leaves of the count of failed reads
   pub reads_bear : (faults : S → ℕ) (alone : Bool) (failed : Type 0) (src over begun done final : S) (how : LiveEnd) (status : Status)
@@ -120,7 +120,7 @@ module _ {S : Type 0} (left : S → Option (List ℕ)) where
   pub run_told : (src over begun done final : S) (before after : Option (List ℕ)) (head : Head) (reading : Reading) (how : LiveEnd) (status : Status)
       → over ≡ src → final ≡ done → status ≡ status_of how
       → IfSome (left over) (λ input. IsBehind input head reading (left begun))
-      → IfSome (left begun) (λ unread. Reaches head.cluster head.journal reading unread (left done) before after how)
+      → IfSome (left begun) (λ unread. ReachesEnd head.cluster head.journal reading unread (left done) before after how)
       → (how ≡ end.Done → IfSome (left done) (λ l. l ≡ []))
       → IfSome (left src) (λ input. SaysLive input (left final) before after status)
   run_told src over begun done final before after head reading how status lent back is behind reaches at_end =

@@ -15,7 +15,7 @@ use Rattle.run_safety.proofs.OneEnd.{cut_one, whole_one, whole_or_cut}
 use Rattle.run_safety.proofs.OneRun.{one_way}
 use Rattle.run_safety.proofs.PlansAreOne.{plans_one}
 use Rattle.sim_core.specs.declared.verdict.Clause.{Clause}
-use Rattle.sim_core.specs.LawfulRuns.{IsCutRunOfLines, IsFaultyPlace, IsOther, IsPrintedSoFar, IsUndue, IsWholeRunOfLines, answers_of_lines, clause_of, other, undue}
+use Rattle.sim_core.specs.LawfulRuns.{IsCutRunOfLines, IsFaultyPlace, PrintsAnother, IsPrintedSoFar, IsUndue, IsWholeRunOfLines, answers_of_lines, clause_of, other, undue}
 use Rattle.sim_core.proofs.Exclusive.{in_front}
 
 -- what stands before a place at which something stands
@@ -56,13 +56,13 @@ module _ (c : Cluster) (journal : Journal) (lines : List RunLine) where
   alike n place front a e f = from_front n place lines a (subst (λ xs. slice_get xs place ≡ Some a) e f)
 
   -- of two other lines neither stands before the other
-  none_before : (place q : ℕ) (kind sort : Clause) → IsOther c journal lines place kind → IsOther c journal lines q sort → place < q → ⊥
+  none_before : (place q : ℕ) (kind sort : Clause) → PrintsAnother c journal lines place kind → PrintsAnother c journal lines q sort → place < q → ⊥
   none_before place q kind sort o p low =
       let b = earlier p.printed place q p.due low p.due_there in
       let same = one_line o.printed p.printed o.so_far p.so_far place o.due b.what o.due_there b.there in
       o.different (alike q place (take q p.printed) b.what p.same (into_front q place p.printed b.what low b.there) ∙ ap Some (sym same))
 
-  same_kind : (place : ℕ) (kind sort : Clause) → IsOther c journal lines place kind → IsOther c journal lines place sort → kind ≡ sort
+  same_kind : (place : ℕ) (kind sort : Clause) → PrintsAnother c journal lines place kind → PrintsAnother c journal lines place sort → kind ≡ sort
   same_kind place kind sort o p =
       let same = one_line o.printed p.printed o.so_far p.so_far place o.due p.due o.due_there p.due_there in
       o.kind_is ∙ ap clause_of same ∙ sym p.kind_is
@@ -77,7 +77,7 @@ module _ (c : Cluster) (journal : Journal) (lines : List RunLine) where
     by (inr cut) =
         (begins_cut c journal.promotions true (plans_one c journal.promotions) journal.events (Some (answers_of_lines lines)) tt p.at p.behind printed p.runs u.left cut.0 cut.1 u.printed cut.2).0
 
-  other_or_undue : (place q : ℕ) (kind : Clause) → IsOther c journal lines place kind → IsUndue c journal lines q → ⊥
+  other_or_undue : (place q : ℕ) (kind : Clause) → PrintsAnother c journal lines place kind → IsUndue c journal lines q → ⊥
   other_or_undue place q kind o u =
       let front = front_of q o.printed o.so_far u in
       let there : slice_get u.printed place ≡ Some o.due
@@ -105,14 +105,14 @@ module _ (c : Cluster) (journal : Journal) (lines : List RunLine) where
   one_place : (place q : ℕ) → IsUndue c journal lines place → IsUndue c journal lines q → place ≡ q
   one_place place q u v = sym (place_is place u) ∙ ap (λ xs. length xs) (one_printed place q u v) ∙ place_is q v
 
-  one_other : (place q : ℕ) (kind sort : Clause) → IsOther c journal lines place kind → IsOther c journal lines q sort → (place ≡ q) × (kind ≡ sort)
+  one_other : (place q : ℕ) (kind sort : Clause) → PrintsAnother c journal lines place kind → PrintsAnother c journal lines q sort → (place ≡ q) × (kind ≡ sort)
   one_other place q kind sort o p = by (nat_lt place q) refl (nat_lt q place) refl where
     by : (less : Bool) → nat_lt place q ≡ less → (more : Bool) → nat_lt q place ≡ more → (place ≡ q) × (kind ≡ sort)
     by true e more f = absurd (none_before place q kind sort o p (grind (arith, nat_tests)))
     by false e true f = absurd (none_before q place sort kind p o (grind (arith, nat_tests)))
     by false e false f =
         let same : place ≡ q = grind (arith, nat_tests) in
-        (same, same_kind q kind sort (subst (λ n. IsOther c journal lines n kind) same o) p)
+        (same, same_kind q kind sort (subst (λ n. PrintsAnother c journal lines n kind) same o) p)
 
   pub one_fault : (place q : ℕ) (kind sort : Clause) → IsFaultyPlace c journal lines place kind → IsFaultyPlace c journal lines q sort → (place ≡ q) × (kind ≡ sort)
   one_fault place q kind sort (other _ o) (other _ p) = one_other place q kind sort o p

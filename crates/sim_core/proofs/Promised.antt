@@ -128,7 +128,7 @@ module _ (input : List ℕ) where
       ends_now =
           let lines = at_first_result head.cluster head.journal reading in
           some_end head.cluster head.journal all safe_now.valid
-          (coming_no_fault head.cluster lines.reading.longest lines.at lines.reading.room (raw_lines (lines.reading.held ++ unread)))
+          (coming_no_fault head.cluster lines.reading.longest lines.reading.room lines.at (raw_lines (lines.reading.held ++ unread)))
 
       broken_off : HasReadFailed head.cluster head.journal reading unread left before after → HasWrittenFront head all [] before after
       broken_off b = record {

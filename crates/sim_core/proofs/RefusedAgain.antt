@@ -38,7 +38,7 @@ use Rattle.live_run.specs.declared.line_stop.LineStop.TheVariants as stop
 use Rattle.live_run.proofs.ComingRead.{SaysStop}
 use Rattle.live_run.proofs.HeadRead.{SaysHead, fault_behind, head_is}
 use Rattle.live_run.proofs.LinesJoined.{are_read, lines_clean, same_words, text_bytes}
-use Rattle.sim_core.specs.LineByLine.{HasPlainLines, HasPlainRest, HasRefusedLine, IsRefusedByLine, line_isnt_cut, in_head, is_no_answer}
+use Rattle.sim_core.specs.LineByLine.{HasPlainLines, HasPlainRest, HasRefusedLine, IsRefusedByLine, line_isnt_cut, in_head, line_isnt_answer}
 use Rattle.sim_core.specs.Replay.{coming_behind, head_in, words_refused, head_refused}
 use Rattle.sim_core.proofs.InputSteps.{by_sections, steps_on, without_sections, without_words}
 use Rattle.sim_core.proofs.InputAgain.{as_together, behind, come_says, comes, faults_are, h, head_read, is_input, not_past, others, rest_is, rows, together}
@@ -164,7 +164,7 @@ pub same_fault : (text : List ℕ) (line : ℕ) (why : InputCause) → IsRefused
 same_fault text _ _ (in_head _ _ (words_refused line w is)) plain = words_in_head text line w is
 same_fault text _ _ (in_head _ _ (head_refused bytes next room line why is says)) plain = in_the_head text bytes next room is (plain bytes next room is) line why says
 same_fault text _ _ (line_isnt_cut bytes head next room line w begun none) plain = words_behind text bytes next room begun.is head line w none
-same_fault text _ _ (is_no_answer bytes head next room line w begun none) plain = in_results text bytes next room begun.is (plain bytes next room begun.is) head line w begun.says none
+same_fault text _ _ (line_isnt_answer bytes head next room line w begun none) plain = in_results text bytes next room begun.is (plain bytes next room begun.is) head line w begun.says none
 
 -- and where the line lacks words
 same_words_fault : (text : List ℕ) (line : ℕ) (why : InputCause) → IsRefusedByLine text line why → (w : LexCause) → why ≡ cause.Words w → IsTextRefused text line why
@@ -172,7 +172,7 @@ same_words_fault text _ _ (in_head _ _ (words_refused line why is)) w same = wor
 same_words_fault text _ _ (in_head _ _ (head_refused bytes next room line why is says)) w same =
     absurd (start_none bytes (rows text bytes next room is) (head_read text bytes next room is) line w (says ∙ ap (λ (c : InputCause). Err (At line c)) same))
 same_words_fault text _ _ (line_isnt_cut bytes head next room line v begun none) w same = words_behind text bytes next room begun.is head line v none
-same_words_fault text _ _ (is_no_answer bytes head next room line v begun none) w same = absurd (let f : ⊥ = cc in f)
+same_words_fault text _ _ (line_isnt_answer bytes head next room line v begun none) w same = absurd (let f : ⊥ = cc in f)
 
 pub same_words_refused : (text : List ℕ) (line : ℕ) (why : LexCause) → IsRefusedByLine text line (cause.Words why) → IsTextRefused text line (cause.Words why)
 same_words_refused text line why r = same_words_fault text line (cause.Words why) r why refl
@@ -188,7 +188,7 @@ module _ (text : List ℕ) (fits : length text ≤ most_bytes) where
       let came = comes text whole r fits in no_fault text came.bytes whole.head came.next came.room line why came.begun fault
   not_both _ _ (line_isnt_cut bytes head next room line w begun none) whole r =
       apart _ _ (sym r ∙ words_behind text bytes next room begun.is head line w none)
-  not_both _ _ (is_no_answer bytes head next room line w begun none) whole r =
+  not_both _ _ (line_isnt_answer bytes head next room line w begun none) whole r =
       let came = comes text whole r fits in
       let same = same_head text bytes came.bytes head whole.head next came.next room came.room begun came.begun in
       let stopped = carried text (λ c journal (come : Coming). come.stop ≡ Some (stop.Refused line (of_line.Form w))) bytes came.bytes head whole.head next came.next room came.room same none in
@@ -229,7 +229,7 @@ module _ (text : List ℕ) (fits : length text ≤ most_bytes) where
       of_stop bytes next room is head says (Some (stop.Refused line (of_line.Words why))) none =
           record { line = line; why = cause.Words why; refused = line_isnt_cut bytes head next room line why (record { is = is; says = says }) none }
       of_stop bytes next room is head says (Some (stop.Refused line (of_line.Form why))) none =
-          record { line = line; why = cause.Results why; refused = is_no_answer bytes head next room line why (record { is = is; says = says }) none }
+          record { line = line; why = cause.Results why; refused = line_isnt_answer bytes head next room line why (record { is = is; says = says }) none }
       of_stop bytes next room is head says (Some stop.TooLarge) none =
           absurd (not_past text bytes next room is (stopped text bytes next room is head (Some stop.TooLarge) none) fits)
       of_stop bytes next room is head says (Some stop.ReadFault) none = absurd (stopped text bytes next room is head (Some stop.ReadFault) none)

@@ -17,5 +17,5 @@ same_coming input bytes unread head reading longest parts =
     let at : Place = record { moment = moment_of head.journal.events; before = 0; line = reading.next } in
     let same : reading.held ++ unread ≡ drop (length bytes) input
     = sym (drop-append_seam bytes (reading.held ++ unread)) ∙ ap (λ (t : List ℕ). drop (length bytes) t) (sym parts) in
-    ap (λ (n : ℕ). coming head.cluster n at reading.room (raw_lines (reading.held ++ unread))) longest
-    ∙ ap (λ (t : List ℕ). coming head.cluster 1048576 at reading.room (raw_lines t)) same
+    ap (λ (n : ℕ). coming head.cluster n reading.room at (raw_lines (reading.held ++ unread))) longest
+    ∙ ap (λ (t : List ℕ). coming head.cluster 1048576 reading.room at (raw_lines t)) same

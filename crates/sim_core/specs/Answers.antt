@@ -6,14 +6,15 @@ use Rattle.sim_core.specs.declared.status.Status.TheVariants.{Done, NoMemory, Us
 use Rattle.sim_core.specs.declared.words.Command.{Command}
 use Rattle.sim_core.specs.LiveAnswers.{SaysLive}
 use Rattle.input_reading.specs.Reading.{most_bytes}
-use Rattle.sim_core.specs.Commands.{Intake, nothing, whole, live, intake, takes_memory, Gets}
+use Rattle.sim_core.specs.Commands.{Intake, nothing, whole_input, live, intake, takes_memory, Gets}
 
 -- the input was read to its end, and had room
 pub record IsReadWhole (input : List ℕ) (left : Option (List ℕ)) : Type 0 where
   pub room : length input ≤ most_bytes
   pub at_end : left ≡ Some []
 
--- what each status says of an input that is read to its end, and of what is left of it
+-- what each status says of the input of a word that reads it to its end, and of what is left of it. The line of `Usage` is never used: `SaysOfSink`
+-- says that no such word ends so
 abbrev pub SaysOfWholeInput : List ℕ → Option (List ℕ) → Status → Type 0
 SaysOfWholeInput input left Done = IsReadWhole input left
 SaysOfWholeInput input left NoMemory = Unit {0}
@@ -40,7 +41,7 @@ SaysOfNoInput NotLawful = Unit {0}
 -- what a status says of the input, and of what is left of it. Of a live word this is said together with what is written
 abbrev pub SaysOfInput : Intake → List ℕ → Option (List ℕ) → Status → Type 0
 SaysOfInput nothing input left status = SaysOfNoInput status
-SaysOfInput whole input left status = SaysOfWholeInput input left status
+SaysOfInput whole_input input left status = SaysOfWholeInput input left status
 SaysOfInput live input left status = Unit {0}
 
 -- where the input gets these statuses with these texts
@@ -88,16 +89,16 @@ module _ (kind : Intake) (Output : List ℕ → Status → List ℕ → Type 0) 
     pub room : length input ≤ most_bytes
     pub due : IsStatusDue (Output input) status
 
--- the input of a word, where it is told: all bytes that the source has left, and none with a word that reads nothing
+-- the input of a word, where it is told: all bytes that the source has left; with a word that reads nothing it is told, and has no bytes
 abbrev pub told_input : Intake → Option (List ℕ) → Option (List ℕ)
 told_input nothing left = Some []
-told_input whole left = left
+told_input whole_input left = left
 told_input live left = left
 
 -- what the answer to a word with this intake says of its input
 abbrev pub SaysBy : Intake → Command → List ℕ → Option (List ℕ) → Option (List ℕ) → Option (List ℕ) → Status → Type 0
 SaysBy nothing word input left before after status = SaysOf nothing (Gets word) input left before after status
-SaysBy whole word input left before after status = SaysOf whole (Gets word) input left before after status
+SaysBy whole_input word input left before after status = SaysOf whole_input (Gets word) input left before after status
 SaysBy live word input left before after status = SaysLive input left before after status
 
 -- what the answer to a word says, where its input is told
@@ -108,7 +109,7 @@ WordAnswers word told left before after status =
 -- a word that reads an input to its end before it writes gives a text of one that has room. A live word gives one of each input
 abbrev pub InputHasRoom : Intake → List ℕ → Type 0
 InputHasRoom nothing input = length input ≤ most_bytes
-InputHasRoom whole input = length input ≤ most_bytes
+InputHasRoom whole_input input = length input ≤ most_bytes
 InputHasRoom live input = Unit {0}
 
 -- where the input has room, each answer but out of memory is the one that the input gets (run says this where no count rose)
@@ -118,19 +119,19 @@ IsCompleteAnswer word told status = IfSome (told_input (intake word) told) (λ i
 
 abbrev pub reads_some : Intake → Bool
 reads_some nothing = false
-reads_some whole = true
+reads_some whole_input = true
 reads_some live = true
 
 -- a word may have this status with its text: some input gets it. Of a live word nothing is asked here
 abbrev pub MayGiveStatus : Intake → (List ℕ → Status → List ℕ → Type 0) → Status → Type 0
 MayGiveStatus nothing Output status = SomeInput nothing Output status
-MayGiveStatus whole Output status = SomeInput whole Output status
+MayGiveStatus whole_input Output status = SomeInput whole_input Output status
 MayGiveStatus live Output status = Unit {0}
 
 -- a word may find that a run isn't lawful: some input gets this. A live word judges none
 abbrev pub MayJudge : Intake → (List ℕ → Status → List ℕ → Type 0) → Type 0
 MayJudge nothing Output = SomeInput nothing Output NotLawful
-MayJudge whole Output = SomeInput whole Output NotLawful
+MayJudge whole_input Output = SomeInput whole_input Output NotLawful
 MayJudge live Output = ⊥
 
 -- a status that a call may have whatever its source and its sink tell: it may fail to read, to write or for memory, or find the input too large; and it may
@@ -157,7 +158,7 @@ IsEarly status = (status ≡ ReadFault) ⊎ ((status ≡ TooLarge) ⊎ (status �
 -- the words are those of a word that reads an input to its end
 abbrev pub ReadsWhole : Option Command → Type 0
 ReadsWhole None = ⊥
-ReadsWhole (Some word) = intake word ≡ whole
+ReadsWhole (Some word) = intake word ≡ whole_input
 
 -- the words are those of a word that reads line by line while it writes
 abbrev pub ReadsLive : Option Command → Type 0

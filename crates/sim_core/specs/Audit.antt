@@ -33,7 +33,7 @@ pub record IsLawfulTrace (input text : List ℕ) : Type 0 where
   pub printed : text ≡ lawful_text
 
 -- the text names the first line of the run that isn't the due one, and what is due there. Where lines are missing, it has the number behind that of the last
--- line of the input. A line that goes on counts by its first physical line
+-- line of the input that has words. A line that goes on counts by its first physical line
 pub record IsUnlawfulTrace (input text : List ℕ) : Type 0 where
   pub whole : Trace
   pub reads : ReadsTrace input whole

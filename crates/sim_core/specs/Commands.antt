@@ -20,19 +20,19 @@ use Rattle.sim_core.specs.World.{IsWorldOf}
 -- what a word reads: nothing, an input to its end before it writes, or line by line while it writes
 pub data Intake : Type 0 where
   nothing : Intake
-  whole : Intake
+  whole_input : Intake
   live : Intake
 
 abbrev pub intake : Command → Intake
-intake Check = whole
-intake Scores = whole
-intake Why = whole
-intake Graph = whole
-intake Survive = whole
-intake Audit = whole
+intake Check = whole_input
+intake Scores = whole_input
+intake Why = whole_input
+intake Graph = whole_input
+intake Survive = whole_input
+intake Audit = whole_input
 intake Replay = live
 intake (Gen number) = nothing
-intake (World number) = whole
+intake (World number) = whole_input
 intake Help = nothing
 intake Version = nothing
 
@@ -50,7 +50,8 @@ takes_memory (World number) = true
 takes_memory Help = false
 takes_memory Version = false
 
--- with a word an input of this content gets this status and this text. With a word that reads nothing each input does
+-- with a word an input of this content gets this status and this text. With a word that reads nothing each input does. That a content has room is asked beside
+-- it (`IsReadWhole`)
 abbrev pub Gets : Command → List ℕ → Status → List ℕ → Type 0
 Gets Check input status text = IsOutput IsCheckText input status text
 Gets Scores input status text = IsOutput IsScoresText input status text

@@ -22,13 +22,13 @@ pub data IsRunOf (c : Cluster) (journal : Journal) (answers : List Answer) (run 
   cut : (given : Answer) (behind : Option (List Answer))
       → IsCutRun c journal.promotions true journal.events (Some answers) (run_lines c run) run.journal.events given behind → IsRunOf c journal answers run
 
--- the text is the summary of the run of the case of this number, of which each transition is kept as it was planned
+-- the text is the summary, with this number, of the run of an input, of which each transition is kept as it was planned
 pub record IsSummaryOf (number : ℕ) (c : Cluster) (journal : Journal) (answers : List Answer) (text : List ℕ) : Type 0 where
   pub run : Run
   pub is : IsRunOf c journal answers run
   pub plans : AllByRecursion (IsPassedOfPlan c journal.promotions run.journal.events) run.passed
   pub printed : text ≡ summary_text c number run
 
--- the text is the summary of the run of what the input says
+-- the text is the summary of the run of what the input says, with this number in it
 abbrev pub IsSummaryText : ℕ → Input → List ℕ → Type 0
 IsSummaryText number whole text = IsSummaryOf number whole.head.cluster whole.head.journal (answers_of whole.results) text

@@ -45,7 +45,7 @@ module _ (head : Head) (coming : Coming) where
   HasPrinted lines at behind =
       Runs head.cluster head.journal.promotions (is_none coming.stop) (due 1 head.journal.events) (Some (answers_to_come coming)) lines at behind
 
-  -- it is safe wherever it stands: each transition has the one plan for the journal so far; no action begins before all that must precede it have succeeded, no
+  -- it is safe wherever it stands: each journal has one plan; no action begins before all that must precede it have succeeded, no
   -- start or promote makes a copy too many or a forbidden neighbour of whatever may still run; and each complete transition ends in its targets. And as far as
   -- it goes, its lines are safe by themselves
   pub record IsSafeAllTheWay : Type 0 where
@@ -72,7 +72,7 @@ module _ (head : Head) (coming : Coming) where
     pub begins : (how : LiveEnd) (text : List ℕ) → EndGets head.cluster head.journal coming how text → AddsPrefix text before after
     pub safe : IsSafeAllTheWay
 
--- this is so of the head of the input, and what is to come behind it
+-- this is so of the head of the input, and what is to come behind it: the lines from the number `next` on, of which `room` bytes lie within the limit of an input
 pub record IsOfHead (input : List ℕ) (Holds : Head → Coming → Type 0) : Type 0 where
   pub bytes : List ℕ
   pub head : Head
@@ -85,8 +85,9 @@ pub record IsOfHead (input : List ℕ) (Holds : Head → Coming → Type 0) : Ty
 abbrev pub IsTextOfOneSafeRun : LiveEnd → List ℕ → List ℕ → Type 0
 IsTextOfOneSafeRun how input text = IsOfHead input (λ head coming. IsOneSafeRun head coming how text)
 
--- with each status, the text that the input gets is that of its one run, which is safe: with 0 of the whole run; with 6, 5 and 7 of the run up to where it
--- ends early, with 6 and 5 the line behind it that says so. With 5 it may be the fault of the head alone, and with 7 nothing
+-- with each status, the text that the input gets is that of its one run, which is safe. With 0 it is that of the whole run; with 6 and 5 that of the run up to
+-- where it ends early, and the line that says so; with 7 that of the run up to the limit. Where the head isn't read there is no run: with 5 the text is then the
+-- fault of the head, and with 7 nothing
 abbrev pub IsSafeOutput : List ℕ → Status → List ℕ → Type 0
 IsSafeOutput input Done text = IsTextOfOneSafeRun end.Done input text
 IsSafeOutput input Unexpected text = IsTextOfOneSafeRun end.Unexpected input text

@@ -60,7 +60,7 @@ module _ (c : Cluster) (journal : Journal) (lines : List RunLine) where
     pub whole : IsWholeRunOfLines lines left
 
   -- the run prints another line at this place than they have there, if any, and up to there the same
-  pub record IsOther (place : ℕ) (kind : Clause) : Type 0 where
+  pub record PrintsAnother (place : ℕ) (kind : Clause) : Type 0 where
     pub printed : List RunLine
     pub so_far : IsPrintedSoFar printed
     pub due : RunLine
@@ -80,14 +80,14 @@ module _ (c : Cluster) (journal : Journal) (lines : List RunLine) where
 
   -- the first line that isn't the due one stands at this place, and this kind is due there
   pub data IsFaultyPlace (place : ℕ) : Clause → Type 0 where
-    other : (kind : Clause) → IsOther place kind → IsFaultyPlace place kind
+    other : (kind : Clause) → PrintsAnother place kind → IsFaultyPlace place kind
     undue : IsUndue place → IsFaultyPlace place clause.Answer
 
 -- the number of the line at a place of a written run; behind its last line, this one
 abbrev pub line_number_at : List RunTextLine → ℕ → ℕ → ℕ
 line_number_at lines place after = option_map_or (λ (l : RunTextLine). l.line) (slice_get lines place) after
 
--- the first line at fault, if one is, has this number
+-- a line is at fault, and the first that is has this number
 pub record IsFaultyLine (c : Cluster) (journal : Journal) (lines : List RunTextLine) (after number : ℕ) (kind : Clause) : Type 0 where
   pub place : ℕ
   pub fault : IsFaultyPlace c journal (said lines) place kind

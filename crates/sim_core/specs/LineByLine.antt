@@ -28,7 +28,7 @@ pub data IsRefusedByLine (input : List ℕ) : ℕ → InputCause → Type 0 wher
   in_head : (line : ℕ) (why : InputCause) → IsHeadFault input line why → IsRefusedByLine input line why
   line_isnt_cut : (bytes : List ℕ) (head : Head) (next room line : ℕ) (why : LexCause) → IsHeadRead input bytes head next room
       → (coming_behind input bytes head next room).stop ≡ Some (Refused line (cause.Words why)) → IsRefusedByLine input line (Words why)
-  is_no_answer : (bytes : List ℕ) (head : Head) (next room line : ℕ) (why : ResultCause) → IsHeadRead input bytes head next room
+  line_isnt_answer : (bytes : List ℕ) (head : Head) (next room line : ℕ) (why : ResultCause) → IsHeadRead input bytes head next room
       → (coming_behind input bytes head next room).stop ≡ Some (Refused line (cause.Form why)) → IsRefusedByLine input line (Results why)
 
 pub record HasRefusedLine (input : List ℕ) : Type 0 where

@@ -1,5 +1,5 @@
--- What an answer to the word `replay` says of its input, of what was read of it, and of what was written, while the one goes on with the other (rules of
--- this project).
+-- What an answer to the word `replay` says of its input and of what was written; with 0, 3 and 4 also of what was read, since reading and writing go on
+-- together (rules of this project).
 use Rattle.std.specs.Prelude.{◌≡◌, ℕ, ◌-◌, ◌<◌, Option, List, [], ◌++◌, length, IfSome}
 use Rattle.cluster_io.specs.Readings.{Reading}
 use Rattle.cluster_io.specs.Streams.{Adds, AddsPrefix}
@@ -19,8 +19,8 @@ use Rattle.sim_core.specs.Replay.{IsHeadRead, IsHeadFault, IsReplayOutput}
 -- reading stopped amid the head: behind each of the lines that were taken whole the head goes on, and what is held gives no answer yet
 pub record IsAmidHead (input : List ℕ) (left : Option (List ℕ)) : Type 0 where
   pub whole : HasWholeLinesTaken input left
-  pub goes_on : heads.AllGoOnBehind most_bytes longest_line 1 whole.lines
-  pub no_answer : GivesNoAnswer (most_bytes - length (bytes_of whole.lines)) longest_line whole.held
+  pub goes_on : heads.AllGoOnBehind longest_line most_bytes 1 whole.lines
+  pub no_answer : GivesNoAnswer longest_line (most_bytes - length (bytes_of whole.lines)) whole.held
 
 -- what the sink holds before and after
 module _ (input : List ℕ) (left_now written_then written_now : Option (List ℕ)) where
@@ -30,7 +30,7 @@ module _ (input : List ℕ) (left_now written_then written_now : Option (List �
     pub due : IsReplayOutput input status text
     pub added : Adds written_then text written_now
 
-  -- the input was read to its end, and its whole run was written
+  -- the whole run of the input was written; and if the source tells what it has left, that is nothing
   pub record IsReplayDone : Type 0 where
     pub at_end : IfSome left_now (λ bytes. bytes ≡ [])
     pub written : HasWrittenReplay Done

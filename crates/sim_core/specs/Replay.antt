@@ -18,7 +18,7 @@ use Rattle.input_reading.specs.Reading.{longest_line, most_bytes, lone_head_of}
 
 -- the head of an input: its logical lines up to the one that begins the results, or all where none does
 abbrev pub head_in : List ℕ → heads.HeadFound
-head_in input = heads.head_found longest_line [] most_bytes 1 (raw_lines input)
+head_in input = heads.head_found longest_line most_bytes 1 [] (raw_lines input)
 
 -- the head of an input is read: it has these bytes, and says this. The line behind it has this number, and so many of the bytes behind it lie within the
 -- limit
@@ -29,7 +29,7 @@ pub record IsHeadRead (input bytes : List ℕ) (head : Head) (next room : ℕ) :
 -- what is to come behind a head of these bytes, which says this: the answers of the result lines, up to the first that is refused or goes past the limit
 abbrev pub coming_behind : List ℕ → List ℕ → Head → ℕ → ℕ → Coming
 coming_behind input bytes head next room =
-    coming head.cluster longest_line (record { moment = moment_of head.journal.events; before = 0; line = next }) room (raw_lines (drop (length bytes) input))
+    coming head.cluster longest_line room (record { moment = moment_of head.journal.events; before = 0; line = next }) (raw_lines (drop (length bytes) input))
 
 -- the head has a fault: its first line that can't be cut into words; or, where there is none, the first fault of its text
 pub data IsHeadFault (input : List ℕ) : ℕ → InputCause → Type 0 where

@@ -19,7 +19,7 @@ pub record IsTextOfSafeWorld (number : ℕ) (whole : Input) (text : List ℕ) : 
   pub really : (before after : List RunLine) → run_lines whole.head.cluster is.run ≡ before ++ after
       → IsToldBy whole.head.cluster whole.head.journal.events before (IsLivedWithin whole.head.cluster number whole.head.journal.events)
 
--- the text sums up the run of the case of this number. It is safe wherever it stands, and its lines are safe by themselves
+-- the text sums up the run of the input, with this number. The run is safe wherever it stands, and its lines are safe by themselves
 pub record IsSummaryOfSafeRun (number : ℕ) (whole : Input) (text : List ℕ) : Type 0 where
   pub is : IsSummaryText number whole text
   pub safe : IsSafeRun whole.head.cluster whole.head.journal.promotions true whole.head.journal.events (Some (answers_of whole.results))

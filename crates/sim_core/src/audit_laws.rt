@@ -26,7 +26,7 @@ pub fn faulty_lines_are_unique()
         → IsFaultyPlace c journal lines one kind → IsFaultyPlace c journal lines other sort → (one ≡ other) × (kind ≡ sort) }
 {}
 
-/// The lines of a whole run are lawful, over answers that are told, and over those of a simulated cluster.
+/// The lines of a whole run are lawful, whatever answers are to come, told or not.
 pub fn whole_runs_are_lawful()
     ensures { (c : ClusterOf) (journal : JournalOf) (whole : Bool) (rest : Option (List AnswerOf)) (lines : List LineOf) (left : List EventOf)
         → IsWholeRun c journal.promotions whole journal.events rest lines left → IsLawfulRun c journal lines }

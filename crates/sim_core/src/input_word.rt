@@ -6,7 +6,7 @@ ghost use Rattle.sim_core.specs.declared.status.Status.{Status as StatusOf};
 ghost use Rattle.sim_core.specs.Answers.{IsEarly, MayAnswer, SaysOf};
 ghost use Rattle.sim_core.specs.Inner.Outcomes.{IsOutcome};
 ghost use Rattle.input_reading.specs.Reading.{most_bytes};
-ghost use Rattle.sim_core.specs.Commands.{whole};
+ghost use Rattle.sim_core.specs.Commands.{whole_input};
 
 use crate::status::Status;
 use cluster_io::{ReadEnd, Sink, Source, read_all, write_text};
@@ -35,8 +35,8 @@ pub(crate) fn with_input<I: InputWord, S: Source, W: Sink>(
 ) -> Status
     requires { S.ended src.old ≡ false }
     ensures says { IfSome (S.left src.old)
-        (λ input. SaysOf whole (I.gets word.now) input (S.left src.new) (W.written out.old) (W.written out.new) result) }
-    ensures status { MayAnswer true whole (I.gets word.now) result }
+        (λ input. SaysOf whole_input (I.gets word.now) input (S.left src.new) (W.written out.old) (W.written out.new) result) }
+    ensures status { MayAnswer true whole_input (I.gets word.now) result }
     ensures early { IsEarly result → out.new ≡ out.old }
     ensures taken { TakesAtMost (most_bytes + 1) (S.left src.old) (S.left src.new) }
     ensures too_large { result ≡ Status.TooLarge

@@ -41,7 +41,7 @@ pub fn what_check_writes_is_read_again()
 {}
 
 /// The headline. What `replay` writes of an input is the one run of the given results: the whole run with status 0, and with 6, 5 and 7 the run up to where
-/// it ends early. Each transition has the one plan for the journal so far, whose targets obey the mandatory rules and are the best allowed after earlier
+/// it ends early, or with 5 and 7 what is due of a head that has no run. Each transition has the one plan for the journal so far, whose targets obey the mandatory rules and are the best allowed after earlier
 /// placements; no action begins before all that must precede it have succeeded, and none makes a second copy or a forbidden neighbour of what may still run;
 /// and each complete transition ends in its targets. What stands written with any other status is a front of that run (`WritesASafeRun`, a clause of `run`).
 pub fn what_replay_writes_is_one_safe_run()
@@ -71,7 +71,7 @@ pub fn what_gen_sums_up_is_a_safe_run()
     ensures { (number : ℕ) (input text : List ℕ) (whole : InputOf) → ReadsInput input whole → IsSummaryText number whole text → IsSummaryOfSafeRun number whole text }
 {}
 
-/// A number has one summary.
+/// A number has one summary of an input.
 pub fn summaries_are_unique()
     ensures { (number : ℕ) (whole : InputOf) (text other : List ℕ) → IsSummaryText number whole text → IsSummaryText number whole other → text ≡ other }
 {}

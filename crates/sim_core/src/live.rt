@@ -7,7 +7,7 @@ ghost use Rattle.cluster_types.specs.Journals.{moment_of};
 ghost use Rattle.cluster_types.specs.Safety.{IsAtRest};
 ghost use Rattle.cluster_types.specs.Valid.{IsValid};
 ghost use Rattle.live_run.specs.Heads.{CanGoOn};
-ghost use Rattle.live_run.specs.RunReached.{Reaches};
+ghost use Rattle.live_run.specs.RunReached.{ReachesEnd};
 ghost use Rattle.sim_core.specs.Answers.{MayAnswer};
 ghost use Rattle.sim_core.specs.LiveAnswers.{SaysLive};
 ghost use Rattle.sim_core.specs.Inner.LiveSteps.{StopsBy, WritesFault, status_of};
@@ -87,7 +87,7 @@ fn run_behind<'s, S: Source, W: Sink>(
     requires moment { moment_of journal.events < 2 ^ 40 }
     requires next { next ≡ (reading_of reader).next }
     requires reader { CanGoOn (reading_of reader) }
-    ensures reaches { IfSome (S.left (source_of reader.entry)) (λ left. Reaches names.now journal (reading_of reader.entry) left
+    ensures reaches { IfSome (S.left (source_of reader.entry)) (λ left. ReachesEnd names.now journal (reading_of reader.entry) left
         (S.left result.1.now) (W.written out.old) (W.written out.new) result.0) }
     ensures at_end { result.0 ≡ LiveEnd.Done → IfSome (S.left result.1.now) (λ left. left ≡ []) }
     ensures reads { Bears S.counts_only_failures (result.0 ≡ LiveEnd.ReadFault) (S.faults (source_of reader.entry)) (S.faults result.1.now) }

@@ -6,7 +6,7 @@ ghost use Rattle.sim_core.specs.Status.{code_of};
 pub enum Status {
     /// The input was read to its end, and the whole text was written.
     Done,
-    /// Out of memory. A prefix of the text was written; of `replay` it ends between two transitions.
+    /// Out of memory. Nothing was written; of `replay` the run up to a place between two transitions.
     NoMemory,
     /// The words are none of the forms. Nothing was read or written.
     Usage,

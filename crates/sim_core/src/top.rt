@@ -4,7 +4,7 @@ ghost use Rattle.cluster_io.specs.Streams.{Bears, Rose, TakesAtMost, TakesCount}
 ghost use Rattle.sim_core.specs.Answers.{WordAnswers, IsCompleteAnswer, IsEarly, IsStatusOf, ReadsLive, ReadsNothing, ReadsSomething, ReadsWhole, reads_some};
 ghost use Rattle.input_reading.specs.Reading.{most_bytes};
 ghost use Rattle.sim_core.specs.Headline.{WritesASafeRun};
-ghost use Rattle.sim_core.specs.Commands.{intake, nothing, whole};
+ghost use Rattle.sim_core.specs.Commands.{intake, nothing, whole_input};
 ghost use Rattle.sim_core.specs.Words.{command_of};
 
 use crate::audit_word::AuditWord;
@@ -31,11 +31,11 @@ fn carry_out<S: Source, W: Sink>(alloc: Global, word: Command, src: &mut S, out:
     ensures answers { WordAnswers word (S.left src.old) (S.left src.new) (W.written out.old) (W.written out.new) result }
     ensures status { IsStatusOf word result }
     ensures reads_nothing { intake word ≡ nothing → src.new ≡ src.old }
-    ensures early { intake word ≡ whole → IsEarly result → out.new ≡ out.old }
-    ensures taken { intake word ≡ whole → TakesAtMost (most_bytes + 1) (S.left src.old) (S.left src.new) }
-    ensures too_large { intake word ≡ whole → result ≡ Status.TooLarge
+    ensures early { intake word ≡ whole_input → IsEarly result → out.new ≡ out.old }
+    ensures taken { intake word ≡ whole_input → TakesAtMost (most_bytes + 1) (S.left src.old) (S.left src.new) }
+    ensures too_large { intake word ≡ whole_input → result ≡ Status.TooLarge
         → TakesCount (most_bytes + 1) (S.left src.old) (S.left src.new) }
-    ensures nothing_of_too_large { intake word ≡ whole → IfSome (S.left src.old)
+    ensures nothing_of_too_large { intake word ≡ whole_input → IfSome (S.left src.old)
         (λ input. most_bytes < length input → out.new ≡ out.old) }
 
     ensures reads { Bears S.counts_only_failures (result ≡ Status.ReadFault) (S.faults src.old) (S.faults src.new) }

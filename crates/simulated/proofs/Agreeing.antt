@@ -23,8 +23,8 @@ use Rattle.simulated.specs.declared.turn.Turn.{Turn}
 use Rattle.simulated.specs.declared.turn.Turn.TheVariants as turn
 use Rattle.simulated.specs.KeptReality.{IsOfSame, RealityOf, ShowsWorld}
 use Rattle.simulated.specs.Lives.{IsWorldWithin, Lives, at_first, an_action_begins, leaves, joins, ends}
-use Rattle.simulated.specs.Turns.{after_begin, after_end, after_joining, after_leaving, answer_by_fate, is_fault, turn_of, turned}
-use Rattle.simulated.specs.RealWorlds.{World, first_world, is_cell}
+use Rattle.simulated.specs.Turns.{after_begin, after_end, after_joining, after_leaving, answer_by_fate, is_fault, next_turn, world_at_turn}
+use Rattle.simulated.specs.RealWorlds.{RealWorld, first_world, is_cell}
 use Rattle.simulated.proofs.Applying.{ends_apply, joins_apply, leaves_apply}
 use Rattle.simulated.proofs.Counting.{AreNumbers, none_ended, one_joined, one_left}
 use Rattle.simulated.proofs.Within.{always}
@@ -50,7 +50,7 @@ all_numbers f p there =
     on k false e h = alone k (slice_get f.progress.graph.actions (k - 1)) e h
 
 -- two simulated clusters for which the same is kept stand alike
-module _ (k : RealityOf) (v w : World) (one : ShowsWorld k v) (other : ShowsWorld k w) where
+module _ (k : RealityOf) (v w : RealWorld) (one : ShowsWorld k v) (other : ShowsWorld k w) where
   same_node : (n : ℕ) → n < length k.cluster.nodes → v.nodes n ≡ w.nodes n
   same_node n l = let a = one.nodes n l in let b = other.nodes n l in cc
 
@@ -66,7 +66,7 @@ module _ (k : RealityOf) (v w : World) (one : ShowsWorld k v) (other : ShowsWorl
       cc
 
 -- so what is kept of one that agrees with a journal runs only what may run by it
-pub shown_within : (k : WorldOf) (c : Cluster) (es : List Event) (taken : ℕ) (w : World) → Agrees k c es taken → ShowsWorld k.reality w → RunsWithin c es w
+pub shown_within : (k : WorldOf) (c : Cluster) (es : List Event) (taken : ℕ) (w : RealWorld) → Agrees k c es taken → ShowsWorld k.reality w → RunsWithin c es w
 shown_within k c es taken w a shown =
     let of = always c k.reality.number a.first es a.world a.lives in
     record {
@@ -95,7 +95,7 @@ silent_agrees k asked answered c es taken flight a none = record {
 
 module _ (k : WorldOf) (c : Cluster) (es : List Event) (taken : ℕ) (a : Agrees k c es taken) (new : WorldOf) (of : IsOfOne k new) where
   -- it goes on to a world that it lives
-  goes_to : (later : List Event) (more : ℕ) (w : World) → Lives c k.reality.number a.first later w → ShowsWorld new.reality w → more ≤ w.faults → Agrees new c later more
+  goes_to : (later : List Event) (more : ℕ) (w : RealWorld) → Lives c k.reality.number a.first later w → ShowsWorld new.reality w → more ≤ w.faults → Agrees new c later more
   goes_to later more w lives shows few = record {
     of_cluster = of.same.cluster ∙ a.of_cluster;
     first = a.first;
@@ -106,7 +106,7 @@ module _ (k : WorldOf) (c : Cluster) (es : List Event) (taken : ℕ) (a : Agrees
     few = few;
   }
 
-  pub begun_agrees : (number : ℕ) (action : Action) → ((w : World) → ShowsWorld k.reality w → ShowsWorld new.reality (after_begin k.reality.cluster w action))
+  pub begun_agrees : (number : ℕ) (action : Action) → ((w : RealWorld) → ShowsWorld k.reality w → ShowsWorld new.reality (after_begin k.reality.cluster w action))
       → Agrees new c (es ++ Begin number action ∷ []) taken
   begun_agrees number action shows =
       goes_to (es ++ Begin number action ∷ []) taken (after_begin c a.world action) (an_action_begins es a.world number action a.lives)
@@ -115,10 +115,10 @@ module _ (k : WorldOf) (c : Cluster) (es : List Event) (taken : ℕ) (a : Agrees
   -- what comes next, with these actions in flight
   module _ (flight : List (ℕ × Action)) (is : AreInFlightByNumber es flight) (numbers : AreNumbers flight) (count : ℕ) (count_is : count ≡ length flight) (some : 0 < count)
       (mid : RealityOf) (turns : IsOfSame k.reality mid) (came : Turn)
-      (drawn : (w : World) → ShowsWorld k.reality w → came ≡ turn_of k.reality.cluster k.reality.number w count)
-      (shown : (w : World) → ShowsWorld k.reality w → ShowsWorld mid (turned k.reality.cluster k.reality.number w)) where
-    abbrev now : World
-    now = turned c k.reality.number a.world
+      (drawn : (w : RealWorld) → ShowsWorld k.reality w → came ≡ next_turn k.reality.cluster k.reality.number w count)
+      (shown : (w : RealWorld) → ShowsWorld k.reality w → ShowsWorld mid (world_at_turn k.reality.cluster k.reality.number w)) where
+    abbrev now : RealWorld
+    now = world_at_turn c k.reality.number a.world
 
     within : IsWorldWithin c es a.world
     within = always c k.reality.number a.first es a.world a.lives
@@ -127,20 +127,20 @@ module _ (k : WorldOf) (c : Cluster) (es : List Event) (taken : ℕ) (a : Agrees
     busy = subst (λ n. 0 < n) count_is some
 
     mid_shows : ShowsWorld mid now
-    mid_shows = subst (λ d. ShowsWorld mid (turned d k.reality.number a.world)) a.of_cluster (shown a.world a.shows)
+    mid_shows = subst (λ d. ShowsWorld mid (world_at_turn d k.reality.number a.world)) a.of_cluster (shown a.world a.shows)
 
     mid_cluster : mid.cluster ≡ c
     mid_cluster = turns.cluster ∙ a.of_cluster
 
-    came_is : came ≡ turn_of c k.reality.number a.world (length flight)
+    came_is : came ≡ next_turn c k.reality.number a.world (length flight)
     came_is =
-        subst (λ n. came ≡ turn_of c k.reality.number a.world n) count_is
-        (subst (λ d. came ≡ turn_of d k.reality.number a.world count) a.of_cluster (drawn a.world a.shows))
+        subst (λ n. came ≡ next_turn c k.reality.number a.world n) count_is
+        (subst (λ d. came ≡ next_turn d k.reality.number a.world count) a.of_cluster (drawn a.world a.shows))
 
     pub left_applies : (node : ℕ) → came ≡ turn.Leaves node → applies_after c es flight taken (answer.Lost node) ≡ true
     left_applies node e = leaves_apply c k.reality.number es a.world flight taken within a.few node (sym came_is ∙ e)
 
-    pub left_agrees : (node : ℕ) → came ≡ turn.Leaves node → ((w : World) → ShowsWorld mid w → ShowsWorld new.reality (after_leaving mid.cluster w node))
+    pub left_agrees : (node : ℕ) → came ≡ turn.Leaves node → ((w : RealWorld) → ShowsWorld mid w → ShowsWorld new.reality (after_leaving mid.cluster w node))
         → AgreesOn (Agrees new) c es taken flight (answer.Lost node)
     left_agrees node e left = record {
       taken_on = λ applies.
@@ -154,7 +154,7 @@ module _ (k : WorldOf) (c : Cluster) (es : List Event) (taken : ℕ) (a : Agrees
     pub joined_applies : (node : ℕ) → came ≡ turn.Joins node → applies_after c es flight taken (answer.Up node) ≡ true
     joined_applies node e = joins_apply c k.reality.number es a.world flight taken within a.few node (sym came_is ∙ e)
 
-    pub joined_agrees : (node : ℕ) → came ≡ turn.Joins node → ((w : World) → ShowsWorld mid w → ShowsWorld new.reality (after_joining mid.cluster w node))
+    pub joined_agrees : (node : ℕ) → came ≡ turn.Joins node → ((w : RealWorld) → ShowsWorld mid w → ShowsWorld new.reality (after_joining mid.cluster w node))
         → AgreesOn (Agrees new) c es taken flight (answer.Up node)
     joined_agrees node e joined = record {
       taken_on = λ applies.
@@ -166,7 +166,7 @@ module _ (k : WorldOf) (c : Cluster) (es : List Event) (taken : ℕ) (a : Agrees
     }
 
     module _ (place : ℕ) (f : Fate) (number : ℕ) (action : Action) (e : came ≡ turn.Ends place f) (found : slice_get flight place ≡ Some (number, action)) (given : Answer)
-        (said : (w : World) → ShowsWorld mid w → given ≡ answer_by_fate mid.cluster w f number action) where
+        (said : (w : RealWorld) → ShowsWorld mid w → given ≡ answer_by_fate mid.cluster w f number action) where
       given_is : given ≡ answer_by_fate c now f number action
       given_is = subst (λ d. given ≡ answer_by_fate d now f number action) mid_cluster (said now mid_shows)
 
@@ -182,7 +182,7 @@ module _ (k : WorldOf) (c : Cluster) (es : List Event) (taken : ℕ) (a : Agrees
       few true = let few = a.few in omega arith
       few false = let few = a.few in omega arith
 
-      pub ended_agrees : ((w : World) → ShowsWorld mid w → ShowsWorld new.reality (after_end mid.cluster w f action)) → AgreesOn (Agrees new) c es taken flight given
+      pub ended_agrees : ((w : RealWorld) → ShowsWorld mid w → ShowsWorld new.reality (after_end mid.cluster w f action)) → AgreesOn (Agrees new) c es taken flight given
       ended_agrees ended = subst (λ g. AgreesOn (Agrees new) c es taken flight g) (sym given_is) (record {
         taken_on = λ applies.
             let last = answer_by_fate c now f number action in

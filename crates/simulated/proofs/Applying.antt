@@ -19,36 +19,36 @@ use Rattle.cluster_types.specs.AnswersThatApply.{applies_after, is_joined_sign, 
 use Rattle.cluster_types.specs.May.{may_be_running}
 use Rattle.cluster_types.specs.Precedence.{LeafOnNode, op_cell}
 use Rattle.cluster_types.specs.Fields.{copies}
-use Rattle.cluster_types.specs.Safety.{HasRoomForCopy, NoSecondCopy, count_of_others}
+use Rattle.cluster_types.specs.Safety.{MayRunOnFewOthers, NoSecondCopy, count_of_others}
 use Rattle.cluster_types.specs.Steps.{Transition, journal}
 use Rattle.simulated.specs.declared.turn.Fate.{Fate}
 use Rattle.simulated.specs.declared.turn.Fate.TheVariants as fate
 use Rattle.simulated.specs.Lives.{IsWorldWithin, NoSecondCopyReally, ReallyAddsNoCopy}
 use Rattle.simulated.proofs.Within.{always}
 use Rattle.cluster_types.specs.declared.leaf.Op.TheVariants as op
-use Rattle.simulated.specs.Turns.{answer_by_fate, turn_of}
-use Rattle.simulated.specs.RealWorlds.{World, found_at, is_cell, is_node_off, is_there, is_node_up, standing_by}
+use Rattle.simulated.specs.Turns.{answer_by_fate, next_turn}
+use Rattle.simulated.specs.RealWorlds.{RealWorld, found_at, is_cell, is_node_off, is_there, is_node_up, standing_by}
 
 flies : (flight : List (ℕ × Action)) (place k : ℕ) (a : Action) → slice_get flight place ≡ Some (k, a) → list_any (is_number_of k) flight ≡ true
 flies [] place k a at = cc
 flies (p ∷ ps) zero k a at = let is : p ≡ (k, a) = cc in let same : (k == k) ≡ true = grind arith in rw is (rw same refl)
 flies (p ∷ ps) (suc place) k a at = rw (flies ps place k a at) (or-true (p.0 == k))
 
-pub ends_apply : (c : Cluster) (es : List Event) (w : World) (flight : List (ℕ × Action)) (taken place k : ℕ) (f : Fate) (a : Action)
+pub ends_apply : (c : Cluster) (es : List Event) (w : RealWorld) (flight : List (ℕ × Action)) (taken place k : ℕ) (f : Fate) (a : Action)
     → slice_get flight place ≡ Some (k, a) → applies_after c es flight taken (answer_by_fate c w f k a) ≡ true
 ends_apply c es w flight taken place k fate.True a at = flies flight place k a at
 ends_apply c es w flight taken place k fate.DoneBadly a at = flies flight place k a at
 ends_apply c es w flight taken place k fate.Undone a at = flies flight place k a at
 ends_apply c es w flight taken place k fate.TimedOut a at = flies flight place k a at
 
-module _ (t : Transition) (before : List Event) (w : World) (within : IsWorldWithin t.cluster (journal t before) w) where
+module _ (t : Transition) (before : List Event) (w : RealWorld) (within : IsWorldWithin t.cluster (journal t before) w) where
   found_may : (r m : ℕ) → is_there (found_at t.cluster w.cells r m) ≡ true → may_be_running t.cluster r m (journal t before) ≡ true
   found_may r m h = on (is_cell t.cluster r m) refl h where
     on : (b : Bool) → is_cell t.cluster r m ≡ b → is_there (found_at t.cluster w.cells r m) ≡ true → may_be_running t.cluster r m (journal t before) ≡ true
     on true e g = within.runs r m e (rw e at g)
     on false e g = let none = rw e at g in cc
 
-  pub fewer : (at : LeafOnNode) → HasRoomForCopy t before at
+  pub fewer : (at : LeafOnNode) → MayRunOnFewOthers t.cluster at (journal t before)
       → count_of_others t.cluster at.node (λ m. is_there (found_at t.cluster w.cells at.leaf m)) < copies t.cluster at.leaf
   fewer at adds =
       let less = count_more (λ m. not (m == at.node) && is_there (found_at t.cluster w.cells at.leaf m)) (λ m. not (m == at.node) && may_be_running t.cluster at.leaf m (journal t before))
@@ -59,11 +59,11 @@ module _ (t : Transition) (before : List Event) (w : World) (within : IsWorldWit
 pub none_second : (number : ℕ) (first : List Event) (t : Transition) (events : List Event) → NoSecondCopy t events → NoSecondCopyReally number first t events
 none_second number first t events safe before after k a at = on (op_cell op.Start a) ((safe before after k a at).0)
   where
-    on : (o : Option LeafOnNode) → IfSome o (HasRoomForCopy t before) → IfSome o (ReallyAddsNoCopy number first t before)
+    on : (o : Option LeafOnNode) → IfSome o (λ at. MayRunOnFewOthers t.cluster at (journal t before)) → IfSome o (ReallyAddsNoCopy number first t before)
     on None h = tt
     on (Some cell) h = λ w life. fewer t before w (always t.cluster number first (journal t before) w life) cell h
 
-module _ (c : Cluster) (number : ℕ) (es : List Event) (w : World) (flight : List (ℕ × Action)) (taken : ℕ) (within : IsWorldWithin c es w) (few : taken ≤ w.faults) where
+module _ (c : Cluster) (number : ℕ) (es : List Event) (w : RealWorld) (flight : List (ℕ × Action)) (taken : ℕ) (within : IsWorldWithin c es w) (few : taken ≤ w.faults) where
   room : w.faults < 16 → nat_lt taken 256 ≡ true
   room early = grind (arith, nat_tests)
 
@@ -78,7 +78,7 @@ module _ (c : Cluster) (number : ℕ) (es : List Event) (w : World) (flight : Li
       on true i = cc
       on false i = cc
 
-  pub leaves_apply : (node : ℕ) → turn_of c number w (length flight) ≡ turn.Leaves node → applies_after c es flight taken (answer.Lost node) ≡ true
+  pub leaves_apply : (node : ℕ) → next_turn c number w (length flight) ≡ turn.Leaves node → applies_after c es flight taken (answer.Lost node) ≡ true
   leaves_apply node e =
       let so = leaving c number w (length flight) node e in
       let there : nat_lt node (length c.nodes) ≡ true = let low = so.within in grind (arith, nat_tests) in
@@ -96,7 +96,7 @@ module _ (c : Cluster) (number : ℕ) (es : List Event) (w : World) (flight : Li
       on true i = cc
       on false i = refl
 
-  pub joins_apply : (node : ℕ) → turn_of c number w (length flight) ≡ turn.Joins node → applies_after c es flight taken (answer.Up node) ≡ true
+  pub joins_apply : (node : ℕ) → next_turn c number w (length flight) ≡ turn.Joins node → applies_after c es flight taken (answer.Up node) ≡ true
   joins_apply node e =
       let so = joining c number w (length flight) node e in
       let there : nat_lt node (length c.nodes) ≡ true = let low = so.within in grind (arith, nat_tests) in

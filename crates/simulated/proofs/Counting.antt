@@ -16,7 +16,7 @@ use Rattle.cluster_types.specs.Steps.{is_from_outside}
 use Rattle.simulated.specs.declared.turn.Fate.{Fate}
 use Rattle.simulated.specs.declared.turn.Fate.TheVariants as fate
 use Rattle.simulated.specs.Turns.{answer_by_fate}
-use Rattle.simulated.specs.RealWorlds.{World, true_code}
+use Rattle.simulated.specs.RealWorlds.{RealWorld, true_code}
 use Rattle.simulated.proofs.Within.{one_end}
 
 -- each number is one of an action
@@ -49,7 +49,7 @@ module _ (c : Cluster) (es : List Event) (flight : List (ℕ × Action)) where
   ended_none : (place k : ℕ) (a : Action) (o : Outcome) → 0 < k → count_by is_from_outside (Ended k a o (moment_of es) ∷ []) ≡ 0
   ended_none place k a o some = let no : (k == 0) ≡ false = grind arith in count-is is_from_outside (Ended k a o (moment_of es)) [] false no
 
-  pub none_ended : (w : World) (place k : ℕ) (a : Action) (f : Fate) → 0 < k → AreInFlightByNumber es flight → slice_get flight place ≡ Some (k, a)
+  pub none_ended : (w : RealWorld) (place k : ℕ) (a : Action) (f : Fate) → 0 < k → AreInFlightByNumber es flight → slice_get flight place ≡ Some (k, a)
       → count_by is_from_outside (added_by c es flight (answer_by_fate c w f k a)) ≡ 0
   none_ended w place k a fate.True some is at =
       ap (count_by is_from_outside) (one_end c es flight place k a (Code (true_code c a w.cells)) is at) ∙ ended_none place k a (Code (true_code c a w.cells)) some

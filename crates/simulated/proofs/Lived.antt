@@ -8,7 +8,7 @@ use Rattle.cluster_types.specs.declared.journal.Promotion.{Promotion}
 use Rattle.cluster_types.specs.declared.run.Run.{Run}
 use Rattle.cluster_types.specs.Runs.{RunStanding, due, amid, idle, Runs, IsOver, journal_at}
 use Rattle.cluster_types.specs.Texts.{run_lines}
-use Rattle.graph_exec.specs.KeptRuns.{IsKept, KeepsPlans}
+use Rattle.graph_exec.specs.KeptRuns.{IsRunKept, KeepsPlans}
 use Rattle.graph_exec.specs.RunEnds.{with_all}
 use Rattle.run_safety.proofs.Along.{journals_grow}
 use Rattle.simulated.specs.Lives.{Lives}
@@ -57,7 +57,7 @@ module _ (c : Cluster) (journal : Journal) (old new : WorldOf) (since : old.sinc
         };
       }
 
-  pub lived_whole : (steady : Bool) → IsKept c journal.promotions true steady journal.events None None run with_all
+  pub lived_whole : (steady : Bool) → IsRunKept c journal.promotions true steady journal.events None None run with_all
       → HasLived c journal old.reality.number new (record { run = run; over = true })
   lived_whole steady kept =
       lived_to true kept.run.last (subst (λ rest. Runs c journal.promotions true (due 1 journal.events) None (run_lines c run) kept.run.last rest) (sym kept.unread) kept.run.steps)

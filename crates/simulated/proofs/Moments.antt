@@ -21,8 +21,8 @@ use Rattle.cluster_types.specs.Steps.{StepsOn, begins, takes, is_silent, Transit
 use Rattle.run_safety.specs.TwoRuns.{IsFront}
 use Rattle.run_safety.proofs.Along.{along, journals_grow}
 use Rattle.simulated.specs.Lives.{Lives, at_first, an_action_begins, leaves, joins, ends}
-use Rattle.simulated.specs.Turns.{after_begin, after_end, after_joining, after_leaving, answer_by_fate, turned}
-use Rattle.simulated.specs.RealWorlds.{World, first_world}
+use Rattle.simulated.specs.Turns.{after_begin, after_end, after_joining, after_leaving, answer_by_fate, world_at_turn}
+use Rattle.simulated.specs.RealWorlds.{RealWorld, first_world}
 use Rattle.simulated.proofs.Within.{always}
 use Rattle.simulated.specs.RunsWithin.{IsLivedWithin}
 
@@ -111,18 +111,18 @@ module _ (c : Cluster) (number : ℕ) (first : List Event) where
   further : (es batch : List Event) → IsFront first es → IsFront first (es ++ batch)
   further es batch f = record { more = f.more ++ batch; joined = ap (λ l. l ++ batch) f.joined ∙ append_assoc first f.more batch }
 
-  pub grown : (es : List Event) (w : World) → Lives c number first es w → IsFront first es
+  pub grown : (es : List Event) (w : RealWorld) → Lives c number first es w → IsFront first es
   grown _ _ at_first = record { more = []; joined = sym (append-nil first) }
   grown _ _ (an_action_begins es w k a life) = further es (Begin k a ∷ []) (grown es w life)
   grown _ _ (leaves es w flight node life is busy e) = further es (added_by c es flight (answer.Lost node)) (grown es w life)
   grown _ _ (joins es w flight node life is busy e) = further es (added_by c es flight (answer.Up node)) (grown es w life)
-  grown _ _ (ends es w flight place f k a life is e at) = further es (added_by c es flight (answer_by_fate c (turned c number w) f k a)) (grown es w life)
+  grown _ _ (ends es w flight place f k a life is e at) = further es (added_by c es flight (answer_by_fate c (world_at_turn c number w) f k a)) (grown es w life)
 
-  found : (es : List Event) (w : World) → Lives c number first es w → IsLivedWithin c number first es
+  found : (es : List Event) (w : RealWorld) → Lives c number first es w → IsLivedWithin c number first es
   found es w life = record { world = w; lives = life; within = always c number first es w life }
 
   -- by the last that was added, a moment is the present one, or an earlier one
-  back : (es batch xs more : List Event) (w : World) → IsFront first es → IsBatch batch → IsMoment first xs → es ++ batch ≡ xs ++ more
+  back : (es batch xs more : List Event) (w : RealWorld) → IsFront first es → IsBatch batch → IsMoment first xs → es ++ batch ≡ xs ++ more
       → Lives c number first (es ++ batch) w → ((rest : List Event) → es ≡ xs ++ rest → IsLivedWithin c number first xs) → IsLivedWithin c number first xs
   back es batch xs more w front b moment is life before = on (parted es batch xs more is)
     where
@@ -141,7 +141,7 @@ module _ (c : Cluster) (number : ℕ) (first : List Event) where
           let nothing = no_part b.gone b.tail (e ∷ some) more b.all b.few (sym b.is ∙ parts) (omega arith) (last e some at moment) in
           found xs w (subst (λ l. Lives c number first l w) (is ∙ (ap (λ m. xs ++ m) nothing ∙ append-nil xs)) life)
 
-  lived : (es : List Event) (w : World) → Lives c number first es w → (xs more : List Event) → es ≡ xs ++ more → IsFront first xs → IsMoment first xs
+  lived : (es : List Event) (w : RealWorld) → Lives c number first es w → (xs more : List Event) → es ≡ xs ++ more → IsFront first xs → IsMoment first xs
       → IsLivedWithin c number first xs
   lived _ _ at_first xs more is front moment =
       let l : length first ≡ length (xs ++ more) = ap length is in
@@ -154,14 +154,14 @@ module _ (c : Cluster) (number : ℕ) (first : List Event) where
       back es (Begin k a ∷ []) xs more (after_begin c w a) (grown es w life) (one_batch (Begin k a ∷ []) (omega arith)) moment is (an_action_begins es w k a life)
       (λ rest e. lived es w life xs rest e front moment)
   lived _ _ (leaves es w flight node life i busy e) xs more is front moment =
-      back es (added_by c es flight (answer.Lost node)) xs more (after_leaving c (turned c number w) node) (grown es w life) (batch_of c es flight (answer.Lost node)) moment
+      back es (added_by c es flight (answer.Lost node)) xs more (after_leaving c (world_at_turn c number w) node) (grown es w life) (batch_of c es flight (answer.Lost node)) moment
       is (leaves es w flight node life i busy e) (λ rest f. lived es w life xs rest f front moment)
   lived _ _ (joins es w flight node life i busy e) xs more is front moment =
-      back es (added_by c es flight (answer.Up node)) xs more (after_joining c (turned c number w) node) (grown es w life) (batch_of c es flight (answer.Up node)) moment is
+      back es (added_by c es flight (answer.Up node)) xs more (after_joining c (world_at_turn c number w) node) (grown es w life) (batch_of c es flight (answer.Up node)) moment is
       (joins es w flight node life i busy e) (λ rest f. lived es w life xs rest f front moment)
   lived _ _ (ends es w flight place f k a life i e at) xs more is front moment =
-      let given = answer_by_fate c (turned c number w) f k a in
-      back es (added_by c es flight given) xs more (after_end c (turned c number w) f a) (grown es w life) (batch_of c es flight given) moment is
+      let given = answer_by_fate c (world_at_turn c number w) f k a in
+      back es (added_by c es flight given) xs more (after_end c (world_at_turn c number w) f a) (grown es w life) (batch_of c es flight given) moment is
       (ends es w flight place f k a life i e at) (λ rest g. lived es w life xs rest g front moment)
 
 -- some events that don't end with one that is gone
@@ -218,7 +218,7 @@ module _ (first : List Event) where
 
 -- so where a run stood, from which it came to where the simulated cluster has lived, that has lived too
 pub each_moment : (c : Cluster) (promotions : List Promotion) (number : ℕ) (whole : Bool) (es : List Event) (rest middle left : Option (List Answer)) (at later : RunStanding)
-    (lines more : List RunLine) (w : World) → Runs c promotions whole (due 1 es) rest lines at middle → Runs c promotions whole at middle more later left
+    (lines more : List RunLine) (w : RealWorld) → Runs c promotions whole (due 1 es) rest lines at middle → Runs c promotions whole at middle more later left
     → Lives c number es (journal_at later) w → IsLivedWithin c number es (journal_at at)
 each_moment c promotions number whole es rest middle left at later lines more w runs further life =
     let grows = journals_grow c promotions whole at later middle left more further in

@@ -7,25 +7,25 @@ use Rattle.simulated.specs.declared.turn.Fate.{Fate}
 use Rattle.simulated.specs.declared.turn.Fate.TheVariants as fate
 use Rattle.simulated.specs.declared.turn.Turn.{Turn}
 use Rattle.simulated.specs.declared.turn.Turn.TheVariants as turn
-use Rattle.simulated.specs.Turns.{HappensBehind, action_ends, drawn_next, fate_by, happens_behind, happens_by, is_fault, node_joins, node_leaves, turn_by, turn_of}
-use Rattle.simulated.specs.RealWorlds.{World, is_node_off, is_node_up}
+use Rattle.simulated.specs.Turns.{DrawnHappening, action_ends, number_drawn_next, fate_by, happening_behind, by_first_number, is_fault, node_joins, node_leaves, turn_at_place, next_turn}
+use Rattle.simulated.specs.RealWorlds.{RealWorld, is_node_off, is_node_up}
 
 -- what happens, by four tests
-abbrev pub by_tests : Bool → Bool → Bool → Bool → ℕ → Fate → ℕ → HappensBehind
+abbrev pub by_tests : Bool → Bool → Bool → Bool → ℕ → Fate → ℕ → DrawnHappening
 by_tests zero one up off node f drawn =
-    if zero then happens_behind (if up then node_leaves node else action_ends fate.True) (drawn + 1)
-    else (if one then happens_behind (if off then node_joins node else action_ends fate.True) (drawn + 1)
-    else happens_behind (action_ends f) drawn)
+    if zero then happening_behind (if up then node_leaves node else action_ends fate.True) (drawn + 1)
+    else (if one then happening_behind (if off then node_joins node else action_ends fate.True) (drawn + 1)
+    else happening_behind (action_ends f) drawn)
 
-module _ (c : Cluster) (number : ℕ) (w : World) where
+module _ (c : Cluster) (number : ℕ) (w : RealWorld) where
   -- a node that stands so, where a fault may be given yet
   pub record IsNodeSo (so : Bool) (node : ℕ) : Type 0 where
     pub early : w.faults < 16
     pub within : node < length c.nodes
     pub is_so : so ≡ true
 
-  abbrev turn_at : HappensBehind → ℕ → Turn
-  turn_at h count = turn_by h.happens (drawn_next number h.drawn count)
+  abbrev turn_at : DrawnHappening → ℕ → Turn
+  turn_at h count = turn_at_place h.happens (number_drawn_next number h.drawn count)
 
   record IsDrawn (stands : Bool) (drawn node : ℕ) : Type 0 where
     pub same : drawn ≡ node
@@ -46,19 +46,19 @@ module _ (c : Cluster) (number : ℕ) (w : World) where
   joined false false up off drawn f at count node e = absurd (let g : ⊥ = cc in g)
 
   abbrev die : ℕ
-  die = drawn_next number w.drawn 20
+  die = number_drawn_next number w.drawn 20
 
   abbrev node_drawn : ℕ
-  node_drawn = drawn_next number (w.drawn + 1) (length c.nodes)
+  node_drawn = number_drawn_next number (w.drawn + 1) (length c.nodes)
 
   -- what is turned by the first number, where a fault may be given or not
   abbrev turn_where : Bool → ℕ → Turn
-  turn_where may count = turn_at (happens_by c number w (if may then Some die else None) (w.drawn + 1)) count
+  turn_where may count = turn_at (by_first_number c number w (if may then Some die else None) (w.drawn + 1)) count
 
   early_by : nat_lt w.faults 16 ≡ true → w.faults < 16
   early_by t = grind (arith, nat_tests)
 
-  pub leaving : (count node : ℕ) → turn_of c number w count ≡ turn.Leaves node → IsNodeSo (is_node_up (w.nodes node)) node
+  pub leaving : (count node : ℕ) → next_turn c number w count ≡ turn.Leaves node → IsNodeSo (is_node_up (w.nodes node)) node
   leaving count node e = on (nat_lt w.faults 16) refl e
     where
       on : (may : Bool) → nat_lt w.faults 16 ≡ may → turn_where may count ≡ turn.Leaves node → IsNodeSo (is_node_up (w.nodes node)) node
@@ -74,7 +74,7 @@ module _ (c : Cluster) (number : ℕ) (w : World) where
             is_so = rw same at parts.1;
           }
 
-  pub joining : (count node : ℕ) → turn_of c number w count ≡ turn.Joins node → IsNodeSo (is_node_off (w.nodes node)) node
+  pub joining : (count node : ℕ) → next_turn c number w count ≡ turn.Joins node → IsNodeSo (is_node_off (w.nodes node)) node
   joining count node e = on (nat_lt w.faults 16) refl e
     where
       on : (may : Bool) → nat_lt w.faults 16 ≡ may → turn_where may count ≡ turn.Joins node → IsNodeSo (is_node_off (w.nodes node)) node
@@ -91,7 +91,7 @@ module _ (c : Cluster) (number : ℕ) (w : World) where
           }
 
   -- an action ends with a fault only where one may be given yet
-  pub ending : (count place : ℕ) (f : Fate) → turn_of c number w count ≡ turn.Ends place f → is_fault f ≡ true → w.faults < 16
+  pub ending : (count place : ℕ) (f : Fate) → next_turn c number w count ≡ turn.Ends place f → is_fault f ≡ true → w.faults < 16
   ending count place f e fault = on (nat_lt w.faults 16) refl e
     where
       on : (may : Bool) → nat_lt w.faults 16 ≡ may → turn_where may count ≡ turn.Ends place f → w.faults < 16

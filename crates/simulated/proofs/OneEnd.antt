@@ -20,7 +20,7 @@ use Rattle.run_safety.proofs.PlansAreOne.{plans_one}
 use Rattle.run_safety.proofs.Rests.{none_flies}
 use Rattle.run_safety.proofs.SoFar.{runs_more}
 use Rattle.simulated.specs.Lives.{Lives}
-use Rattle.simulated.specs.RealWorlds.{World, first_world}
+use Rattle.simulated.specs.RealWorlds.{RealWorld, first_world}
 use Rattle.simulated.specs.WorldTexts.{IsAtEnd, IsLived, IsWorldText, ending, more_due, most_transitions, over, real_lines}
 use Rattle.simulated.specs.LivesOn.{LivesOn}
 use Rattle.simulated.proofs.OneLife.{from_first, stands_one}
@@ -39,7 +39,7 @@ module _ (c : Cluster) (promotions : List Promotion) (number : ℕ) (first : Lis
     is : IsAtEnd ended at
     few : next_number at ≤ most_transitions + 1
 
-  rests : (at : RunStanding) (rest : Option (List Answer)) → HasCome at rest → IsBetween c promotions true at → in_flight_by_begin (journal_at at) ≡ []
+  rests : (at : RunStanding) (rest : Option (List Answer)) → HasCome at rest → IsBetween at → in_flight_by_begin (journal_at at) ≡ []
   rests at rest come = none_flies c promotions true first at come.from rest come.lines none come.runs
 
   further : (at next : RunStanding) (rest left : Option (List Answer)) (lines : List RunLine) → HasCome at rest → RunsOn c promotions true at rest lines next left → HasCome next left
@@ -47,7 +47,7 @@ module _ (c : Cluster) (promotions : List Promotion) (number : ℕ) (first : Lis
       record { from = come.from; lines = come.lines ++ lines; runs = runs_more c promotions true (due 1 first) at next come.from rest left come.lines lines come.runs step }
 
   -- where a run ends, none goes on
-  no_more : {R : Type 0} (at next later : RunStanding) (rest middle left : Option (List Answer)) (lines more : List RunLine) (w last : World) (ended : Bool)
+  no_more : {R : Type 0} (at next later : RunStanding) (rest middle left : Option (List Answer)) (lines more : List RunLine) (w last : RealWorld) (ended : Bool)
       → HasCome at rest → IsAtEnd ended at → RunsOn c promotions true at rest lines next middle → Runs c promotions true next middle more later left → IsLast later
       → LivesOn c number (journal_at at) w (journal_at later) last → R
   no_more _ _ later rest _ left _ more w last _ come (over _ _) (answers k es _ middle given said applies) runs end life =
@@ -59,12 +59,12 @@ module _ (c : Cluster) (promotions : List Promotion) (number : ℕ) (first : Lis
       absurd (let f : ⊥ = omega arith in f)
 
   -- they end at one place, with one list of lines and one world
-  record AreOne (p q : RunStanding) (last final : World) (lines others : List RunLine) : Type 0 where
+  record AreOne (p q : RunStanding) (last final : RealWorld) (lines others : List RunLine) : Type 0 where
     at : p ≡ q
     lines_same : lines ≡ others
     worlds : last ≡ final
 
-  go_together : (at p q : RunStanding) (rest other left right : Option (List Answer)) (lines others : List RunLine) (w last final : World) → IsLast p → IsLast q
+  go_together : (at p q : RunStanding) (rest other left right : Option (List Answer)) (lines others : List RunLine) (w last final : RealWorld) → IsLast p → IsLast q
       → HasCome at rest → HasCome at other → Runs c promotions true at rest lines p left → Runs c promotions true at other others q right
       → LivesOn c number (journal_at at) w (journal_at p) last → LivesOn c number (journal_at at) w (journal_at q) final → AreOne p q last final lines others
   go_together at _ _ rest other _ _ _ _ w last final end also come came (here _ _) (here _ _) one two = record {
@@ -85,7 +85,7 @@ module _ (c : Cluster) (promotions : List Promotion) (number : ℕ) (first : Lis
       (subst (λ z. Runs c promotions true z behind later q right) (sym both.same) goes) both.one both.two in
       record { at = on.at; lines_same = ap (λ z. z ++ more) both.lines_same ∙ ap (λ z. others ++ z) on.lines_same; worlds = on.worlds }
 
-  runs_one : (p q : RunStanding) (lines others : List RunLine) (last final : World) → IsLast p → IsLast q
+  runs_one : (p q : RunStanding) (lines others : List RunLine) (last final : RealWorld) → IsLast p → IsLast q
       → Runs c promotions true (due 1 first) None lines p None → Runs c promotions true (due 1 first) None others q None
       → Lives c number first (journal_at p) last → Lives c number first (journal_at q) final → AreOne p q last final lines others
   runs_one p q lines others last final end also one two life second =
@@ -100,14 +100,14 @@ same_ending _ _ _ _ e (more_due es) (over j others) = absurd (let f : ⊥ = cc i
 same_ending _ _ _ _ e (more_due es) (more_due others) = refl
 
 module _ (c : Cluster) (journal : Journal) (number : ℕ) (none : in_flight_by_begin journal.events ≡ []) where
-  last_of : (run : Run) (is_over : Bool) (w : World) (lived : IsLived c journal number run is_over w) → IsLast c journal.promotions number journal.events none lived.at
+  last_of : (run : Run) (is_over : Bool) (w : RealWorld) (lived : IsLived c journal number run is_over w) → IsLast c journal.promotions number journal.events none lived.at
   last_of run is_over w lived =
       let counted = runs_counted c journal.promotions true (due 1 journal.events) lived.at None None (run_lines c run) lived.goes.steps in
       let all = passed_counted c run.journal.events 1 run.passed in
       let few = lived.few in
       record { ended = is_over; is = lived.ends; few = omega arith }
 
-  pub lived_one : (run other : Run) (is_over ended : Bool) (w last : World) (one : IsLived c journal number run is_over w) (two : IsLived c journal number other ended last)
+  pub lived_one : (run other : Run) (is_over ended : Bool) (w last : RealWorld) (one : IsLived c journal number run is_over w) (two : IsLived c journal number other ended last)
       → (one.at ≡ two.at) × (run_lines c run ≡ run_lines c other) × (is_over ≡ ended) × (w ≡ last)
   lived_one run other is_over ended w last one two =
       let same = runs_one c journal.promotions number journal.events none one.at two.at (run_lines c run) (run_lines c other) w last
@@ -119,5 +119,5 @@ module _ (c : Cluster) (journal : Journal) (number : ℕ) (none : in_flight_by_b
       let same = lived_one one.run two.run one.over two.over one.world two.world one.lived two.lived in
       one.printed
       ∙ (ap (λ z. flat_map (run_line c) z ++ (real_lines c one.world.cells ++ ending one.over)) same.1
-      ∙ (ap (λ (z : World). flat_map (run_line c) (run_lines c two.run) ++ (real_lines c z.cells ++ ending one.over)) same.3
+      ∙ (ap (λ (z : RealWorld). flat_map (run_line c) (run_lines c two.run) ++ (real_lines c z.cells ++ ending one.over)) same.3
       ∙ (ap (λ z. flat_map (run_line c) (run_lines c two.run) ++ (real_lines c two.world.cells ++ ending z)) same.2 ∙ sym two.printed)))

@@ -10,7 +10,7 @@ use Rattle.cases.proofs.DrawLaws.{state_more}
 use Rattle.simulated.specs.KeptReality.{ListsCells, ListsNodes, IsAlone, RealityOf, ShowsWorld, reality}
 use Rattle.simulated.specs.Turns.{after_begin}
 use Rattle.simulated.specs.Inner.Turns.{calm, with_draws}
-use Rattle.simulated.specs.RealWorlds.{Cells, World, begun, done, is_rising, risen, undone, without_node}
+use Rattle.simulated.specs.RealWorlds.{Cells, RealWorld, begun, done, is_rising, risen, undone, without_node}
 use Rattle.simulated.proofs.Holding.{begun_rising, cleared_rising, done_rising, undone_rising}
 
 never_risen : (x : Real) → risen x ≡ real.Rising → ⊥
@@ -19,7 +19,7 @@ never_risen real.Rising e = let no = ap is_rising e in cc
 never_risen real.Started e = let no = ap is_rising e in cc
 never_risen real.Promoted e = let no = ap is_rising e in cc
 
-module _ (c : Cluster) (nodes : List Standing) (cells : List Real) (rising : Option (ℕ × ℕ)) (number state faults : ℕ) (w : World)
+module _ (c : Cluster) (nodes : List Standing) (cells : List Real) (rising : Option (ℕ × ℕ)) (number state faults : ℕ) (w : RealWorld)
     (s : ShowsWorld (reality c nodes cells rising number state faults) w) where
   pub shows_begun : (new : List Real) (a : Action) → ((held : Cells) → ListsCells c cells held → ListsCells c new (begun c a held))
       → ShowsWorld (reality c nodes new rising number state faults) (after_begin c w a)
@@ -51,7 +51,7 @@ module _ (c : Cluster) (nodes : List Standing) (cells : List Real) (rising : Opt
   drawn_is next bound is = ap (λ x. taken_of x bound) (is ∙ next_is)
 
   -- what is kept changes, and no number is drawn
-  pub shows_changed : (new_nodes : List Standing) (new_cells : List Real) (up : Option (ℕ × ℕ)) (now : ℕ) (v : World) → ListsNodes (length c.nodes) new_nodes v.nodes
+  pub shows_changed : (new_nodes : List Standing) (new_cells : List Real) (up : Option (ℕ × ℕ)) (now : ℕ) (v : RealWorld) → ListsNodes (length c.nodes) new_nodes v.nodes
       → ListsCells c new_cells v.cells → IsAlone c up v.cells → v.drawn ≡ w.drawn → now ≡ v.faults → ShowsWorld (reality c new_nodes new_cells up number state now) v
   shows_changed new_nodes new_cells up now v held_nodes held alone drawn same = record {
     nodes = held_nodes;
@@ -78,6 +78,6 @@ module _ (c : Cluster) (nodes : List Standing) (cells : List Real) (rising : Opt
   undone_alone a r n l m e = s.alone r n l m (undone_rising c w.cells r n a e)
 
 -- the same, by how many numbers were drawn
-pub redrawn : (k : RealityOf) (w : World) (drawn : ℕ) → ShowsWorld k w → drawn ≡ w.drawn
+pub redrawn : (k : RealityOf) (w : RealWorld) (drawn : ℕ) → ShowsWorld k w → drawn ≡ w.drawn
     → ShowsWorld k (record { nodes = w.nodes; cells = w.cells; drawn = drawn; faults = w.faults })
 redrawn k w drawn s same = record { nodes = s.nodes; cells = s.cells; alone = s.alone; state = s.state ∙ ap (state_after k.number) (sym same); faults = s.faults }

@@ -26,7 +26,7 @@ use Rattle.run_safety.specs.TwoRuns.{IsFront}
 use Rattle.run_safety.specs.OnePlan.{PlansAreOne}
 use Rattle.run_safety.proofs.OneStep.{ended_goes, unsettled}
 use Rattle.run_safety.proofs.OneStep.{step_one as told_step_one}
-use Rattle.simulated.specs.RealWorlds.{World}
+use Rattle.simulated.specs.RealWorlds.{RealWorld}
 use Rattle.simulated.specs.LivesOn.{LivesOn, StepOfLife, no_step, one_step}
 use Rattle.simulated.proofs.FirstEvents.{AreFirst, answer_begins_none, answer_first, of_flight, one_front, some_first}
 use Rattle.simulated.proofs.OneLife.{grown, no_turn, step_first, step_one, too_long, turn_one}
@@ -54,12 +54,12 @@ module _ (t : Transition) (since : List Event) where
 
 module _ (c : Cluster) (number : ℕ) where
   -- a life that goes on by these events
-  record LivesBy (es : List Event) (w : World) (events later : List Event) (last : World) : Type 0 where
-    next : World
+  record LivesBy (es : List Event) (w : RealWorld) (events later : List Event) (last : RealWorld) : Type 0 where
+    next : RealWorld
     step : StepOfLife c number es w events next
     on : LivesOn c number (es ++ events) next later last
 
-  lives_by : (es events more later : List Event) (w last : World) → AreFirst events → later ≡ (es ++ events) ++ more → LivesOn c number es w later last
+  lives_by : (es events more later : List Event) (w last : RealWorld) → AreFirst events → later ≡ (es ++ events) ++ more → LivesOn c number es w later last
       → LivesBy es w events later last
   lives_by es events more _ w _ first e (no_step _ _) = too_long es events more (some_first events first) e
   lives_by es events more later w last first e (one_step _ others _ _ next _ step on) =
@@ -70,7 +70,7 @@ module _ (c : Cluster) (number : ℕ) where
       record { next = next; step = subst (λ z. StepOfLife c number es w z next) same step; on = subst (λ z. LivesOn c number (es ++ z) next later last) same on }
 
   -- two steps of one transition from one moment on are the same, where both are steps of life
-  both_steps : (t : Transition) (since events others es : List Event) (w next after : World) → IsStep t since events → IsStep t since others
+  both_steps : (t : Transition) (since events others es : List Event) (w next after : RealWorld) → IsStep t since events → IsStep t since others
       → StepOfLife c number es w events next → StepOfLife c number es w others after → (events ≡ others) × (next ≡ after)
   both_steps t since _ _ es w next after (a_begin k a one) (a_begin j b two) s d =
       let same = told_step_one t since true (Some []) tt (Begin k a ∷ []) (Begin j b ∷ []) (Some []) (Some []) (begins (Some []) k a one) (begins (Some []) j b two) in
@@ -82,7 +82,7 @@ module _ (c : Cluster) (number : ℕ) where
       (answer_begins_none t.cluster (journal t since) (in_flight_by_number t since) other) s d
 
   -- while nothing is to be done and nothing is in flight, no answer comes
-  pub no_answer : {R : Type 0} (es later : List Event) (w last : World) (given : Answer) → in_flight_by_begin es ≡ [] → Applies (idling c es) [] given
+  pub no_answer : {R : Type 0} (es later : List Event) (w last : RealWorld) (given : Answer) → in_flight_by_begin es ≡ [] → Applies (idling c es) [] given
       → IsFront (es ++ answer_events (idling c es) [] given) later → LivesOn c number es w later last → R
   no_answer es later w last given none applies grows life =
       let t = idling c es in
@@ -91,18 +91,18 @@ module _ (c : Cluster) (number : ℕ) where
       no_turn c number es w events by.next none (answer_begins_none c (journal t []) (in_flight_by_number t []) given) by.step
 
   -- where two runs stand after a step each: at one place, with one world, from which both go on
-  pub record AreTogether (next after : RunStanding) (lines others : List RunLine) (here there : List Event) (last final : World) : Type 0 where
+  pub record AreTogether (next after : RunStanding) (lines others : List RunLine) (here there : List Event) (last final : RealWorld) : Type 0 where
     pub lines_same : lines ≡ others
     pub same : next ≡ after
-    pub world : World
+    pub world : RealWorld
     pub one : LivesOn c number (journal_at next) world here last
     pub two : LivesOn c number (journal_at next) world there final
 
-  module _ (promotions : List Promotion) (one_plan : PlansAreOne c promotions) (here there : List Event) (w last final : World) where
+  module _ (promotions : List Promotion) (one_plan : PlansAreOne c promotions) (here there : List Event) (w last final : RealWorld) where
     pub together : (at next after : RunStanding) (lines others : List RunLine) (rest other left right : Option (List Answer))
         → RunsOn c promotions true at rest lines next left → RunsOn c promotions true at other others after right
         → IsFront (journal_at next) here → IsFront (journal_at after) there → LivesOn c number (journal_at at) w here last → LivesOn c number (journal_at at) w there final
-        → (IsBetween c promotions true at → in_flight_by_begin (journal_at at) ≡ []) → AreTogether next after lines others here there last final
+        → (IsBetween at → in_flight_by_begin (journal_at at) ≡ []) → AreTogether next after lines others here there last final
     together _ _ _ _ _ rest other _ _ (plans k es _ p a one) (plans _ _ _ q b two) grows also life second rests = record {
       lines_same = ap (λ z. line.Transition k ∷ target_lines c z (targets_of p.table) p.none) (one_plan.pins es p q a b one two)
           ∙ ap (λ z. line.Transition k ∷ target_lines c q.pins (targets_of z) p.none) (one_plan.tables es p q a b one two)

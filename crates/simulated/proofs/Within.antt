@@ -29,8 +29,8 @@ use Rattle.simulated.specs.declared.turn.Fate.{Fate}
 use Rattle.simulated.specs.declared.turn.Fate.TheVariants as fate
 use Rattle.simulated.specs.declared.turn.Turn.TheVariants as turn
 use Rattle.simulated.specs.Lives.{IsWorldWithin, Lives, at_first, an_action_begins, leaves, joins, ends}
-use Rattle.simulated.specs.Turns.{after_begin, after_end, after_joining, after_leaving, answer_by_fate, is_fault, nodes_after, turn_of, turned}
-use Rattle.simulated.specs.RealWorlds.{World, begun, first_world, found_at, is_cell, is_really_promoted, is_there, risen, standing_by, true_code, with_changed_cell, without_node}
+use Rattle.simulated.specs.Turns.{after_begin, after_end, after_joining, after_leaving, answer_by_fate, is_fault, nodes_after, next_turn, world_at_turn}
+use Rattle.simulated.specs.RealWorlds.{RealWorld, begun, first_world, found_at, is_cell, is_really_promoted, is_there, risen, standing_by, true_code, with_changed_cell, without_node}
 use Rattle.simulated.proofs.Quiet.{IsQuiet, failed, gone, late, quiet_closes, quiet_demotes}
 use Rattle.simulated.proofs.Running as running
 use Rattle.simulated.proofs.Running.{Stays}
@@ -93,7 +93,7 @@ module _ (c : Cluster) where
           rw (parts.0, promoted-last c r n e es, parts.1, p.1) (or-true (opens_promoted c r n e))
 
     -- one more event
-    within_more : (w next : World) → IsWorldWithin c es w → ((n : ℕ) → next.nodes n ≡ standing_by c (last_sign n (es ++ e ∷ [])))
+    within_more : (w next : RealWorld) → IsWorldWithin c es w → ((n : ℕ) → next.nodes n ≡ standing_by c (last_sign n (es ++ e ∷ [])))
         → ((r n : ℕ) → is_cell c r n ≡ true → is_there (next.cells r n) ≡ true → (opens c r n e ≡ true) ⊎ ((is_there (w.cells r n) ≡ true) × (closes c r n e ≡ false)))
         → ((r n : ℕ) → is_cell c r n ≡ true → is_really_promoted (next.cells r n) ≡ true
         → ((is_promotable c r ≡ true) × (opens_promoted c r n e ≡ true)) ⊎ ((is_really_promoted (w.cells r n) ≡ true) × (closes_promoted c r n e ≡ false)))
@@ -129,7 +129,7 @@ module _ (c : Cluster) where
       up r n false false false h = cc
 
   -- once all has come up
-  within_turned : (number : ℕ) (w : World) (es : List Event) → IsWorldWithin c es w → IsWorldWithin c es (turned c number w)
+  within_turned : (number : ℕ) (w : RealWorld) (es : List Event) → IsWorldWithin c es w → IsWorldWithin c es (world_at_turn c number w)
   within_turned number w es within = record {
     stands = within.stands;
     runs = λ r n cell h. within.runs r n cell (sym (risen_there (w.cells r n)) ∙ h);
@@ -142,7 +142,7 @@ module _ (c : Cluster) where
       → slice_get flight place ≡ Some (k, a) → end_events c es flight k o ≡ Ended k a o (moment_of es) ∷ []
   one_end es flight place k a o is at = rw (found_first flight place k a is.ascending at) refl
 
-  module _ (w : World) where
+  module _ (w : RealWorld) where
     -- an action begins
     pub within_begun : (es : List Event) (k : ℕ) (a : Action) → IsWorldWithin c es w → IsWorldWithin c (es ++ Begin k a ∷ []) (after_begin c w a)
     within_begun es k a within =
@@ -289,39 +289,39 @@ module _ (c : Cluster) where
         promoted r n false e h = inr (h, refl)
 
   -- a turn
-  module _ (number : ℕ) (w : World) where
-    within_leaves : (es : List Event) (flight : List (ℕ × Action)) (node count : ℕ) → IsWorldWithin c es w → turn_of c number w count ≡ turn.Leaves node
-        → IsWorldWithin c (es ++ (map (end_event c es flight Gone) (filter (λ (p : ℕ × Action). is_on node p.1) flight) ++ Lost node ∷ [])) (after_leaving c (turned c number w) node)
+  module _ (number : ℕ) (w : RealWorld) where
+    within_leaves : (es : List Event) (flight : List (ℕ × Action)) (node count : ℕ) → IsWorldWithin c es w → next_turn c number w count ≡ turn.Leaves node
+        → IsWorldWithin c (es ++ (map (end_event c es flight Gone) (filter (λ (p : ℕ × Action). is_on node p.1) flight) ++ Lost node ∷ [])) (after_leaving c (world_at_turn c number w) node)
     within_leaves es flight node count within e =
         let so = leaving c number w count node e in
         let ps = filter (λ (p : ℕ × Action). is_on node p.1) flight in
-        let after = within_gone (turned c number w) (end_event c es flight Gone) (λ p. (moment_of es, refl)) ps es (within_turned number w es within) in
-        let left = within_left (turned c number w) (es ++ map (end_event c es flight Gone) ps) node so.early after in
+        let after = within_gone (world_at_turn c number w) (end_event c es flight Gone) (λ p. (moment_of es, refl)) ps es (within_turned number w es within) in
+        let left = within_left (world_at_turn c number w) (es ++ map (end_event c es flight Gone) ps) node so.early after in
         rw (append_assoc es (map (end_event c es flight Gone) ps) (Lost node ∷ [])) at left
 
-    within_joins : (es : List Event) (node count : ℕ) → IsWorldWithin c es w → turn_of c number w count ≡ turn.Joins node
-        → IsWorldWithin c (es ++ Up node ∷ []) (after_joining c (turned c number w) node)
-    within_joins es node count within e = within_joined (turned c number w) es node (joining c number w count node e).early (within_turned number w es within)
+    within_joins : (es : List Event) (node count : ℕ) → IsWorldWithin c es w → next_turn c number w count ≡ turn.Joins node
+        → IsWorldWithin c (es ++ Up node ∷ []) (after_joining c (world_at_turn c number w) node)
+    within_joins es node count within e = within_joined (world_at_turn c number w) es node (joining c number w count node e).early (within_turned number w es within)
 
     within_ends : (es : List Event) (flight : List (ℕ × Action)) (count place : ℕ) (f : Fate) (k : ℕ) (a : Action) → IsWorldWithin c es w → AreInFlightByNumber es flight
-        → turn_of c number w count ≡ turn.Ends place f → slice_get flight place ≡ Some (k, a)
-        → IsWorldWithin c (es ++ added_by c es flight (answer_by_fate c (turned c number w) f k a)) (after_end c (turned c number w) f a)
+        → next_turn c number w count ≡ turn.Ends place f → slice_get flight place ≡ Some (k, a)
+        → IsWorldWithin c (es ++ added_by c es flight (answer_by_fate c (world_at_turn c number w) f k a)) (after_end c (world_at_turn c number w) f a)
     within_ends es flight count place f k a within is e at = on f (ending c number w count place f e)
       where
         on : (f : Fate) → (is_fault f ≡ true → w.faults < 16)
-            → IsWorldWithin c (es ++ added_by c es flight (answer_by_fate c (turned c number w) f k a)) (after_end c (turned c number w) f a)
+            → IsWorldWithin c (es ++ added_by c es flight (answer_by_fate c (world_at_turn c number w) f k a)) (after_end c (world_at_turn c number w) f a)
         on fate.True early =
-            rw (one_end es flight place k a (Code (true_code c a (turned c number w).cells)) is at)
-            (within_end (turned c number w) es k a (within_turned number w es within) fate.True early)
+            rw (one_end es flight place k a (Code (true_code c a (world_at_turn c number w).cells)) is at)
+            (within_end (world_at_turn c number w) es k a (within_turned number w es within) fate.True early)
         on fate.DoneBadly early =
-            rw (one_end es flight place k a (Code 1) is at) (within_end (turned c number w) es k a (within_turned number w es within) fate.DoneBadly early)
+            rw (one_end es flight place k a (Code 1) is at) (within_end (world_at_turn c number w) es k a (within_turned number w es within) fate.DoneBadly early)
         on fate.Undone early =
-            rw (one_end es flight place k a (Code 1) is at) (within_end (turned c number w) es k a (within_turned number w es within) fate.Undone early)
+            rw (one_end es flight place k a (Code 1) is at) (within_end (world_at_turn c number w) es k a (within_turned number w es within) fate.Undone early)
         on fate.TimedOut early =
-            rw (one_end es flight place k a TimedOut is at) (within_end (turned c number w) es k a (within_turned number w es within) fate.TimedOut early)
+            rw (one_end es flight place k a TimedOut is at) (within_end (world_at_turn c number w) es k a (within_turned number w es within) fate.TimedOut early)
 
 -- so at every moment
-pub always : (c : Cluster) (number : ℕ) (first es : List Event) (w : World) → Lives c number first es w → IsWorldWithin c es w
+pub always : (c : Cluster) (number : ℕ) (first es : List Event) (w : RealWorld) → Lives c number first es w → IsWorldWithin c es w
 always c number first _ _ at_first = within_first c first
 always c number first _ _ (an_action_begins es w k a life) = within_begun c w es k a (always c number first es w life)
 always c number first _ _ (leaves es w flight node life is busy e) = within_leaves c number w es flight node (length flight) (always c number first es w life) e

@@ -1,12 +1,12 @@
 -- How a simulated cluster is kept, and which one it stands for (rule of this project).
--- The lists of `RealityOf` are how it is kept. What happens in a simulated cluster is said of a `World`, and `ShowsWorld` joins both.
+-- The lists of `RealityOf` are how it is kept. What happens in a simulated cluster is said of a `RealWorld`, and `ShowsWorld` joins both.
 use Rattle.std.specs.Prelude.{◌≡◌, ◌≢◌, ℕ, ◌+◌, ◌*◌, ◌<◌, Option, Some, List, length, slice_get}
 use Rattle.cluster_types.specs.declared.cluster.Cluster.{Cluster}
 use Rattle.simulated.specs.declared.real.Real.{Real}
 use Rattle.simulated.specs.declared.real.Real.TheVariants as real
 use Rattle.simulated.specs.declared.real.Standing.{Standing}
 use Rattle.cases.specs.Draws.{state_after}
-use Rattle.simulated.specs.RealWorlds.{Cells, World}
+use Rattle.simulated.specs.RealWorlds.{Cells, RealWorld}
 
 -- how each node stands; what each leaf does on each node, leaf by leaf and node by node; which cell comes up, if one does; the number, the state of its
 -- draws, and how many faults it was given
@@ -51,7 +51,7 @@ abbrev pub IsAlone : Cluster → Option (ℕ × ℕ) → Cells → Type 0
 IsAlone c rising cells = (r n : ℕ) → r < length c.leaves → n < length c.nodes → cells r n ≡ real.Rising → rising ≡ Some (r, n)
 
 -- it stands for this simulated cluster. It stands for none where a cell comes up and isn't kept as the one that does
-pub record ShowsWorld (k : RealityOf) (w : World) : Type 0 where
+pub record ShowsWorld (k : RealityOf) (w : RealWorld) : Type 0 where
   pub nodes : ListsNodes (length k.cluster.nodes) k.nodes w.nodes
   pub cells : ListsCells k.cluster k.cells w.cells
   pub alone : IsAlone k.cluster k.rising w.cells

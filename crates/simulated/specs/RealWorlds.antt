@@ -22,7 +22,7 @@ abbrev pub Cells : Type 0
 Cells = ℕ → ℕ → Real
 
 -- a simulated cluster: how its nodes stand, what runs, how many numbers were drawn, and how many faults it was given
-pub record World : Type 0 where
+pub record RealWorld : Type 0 where
   pub nodes : ℕ → Standing
   pub cells : Cells
   pub drawn : ℕ
@@ -75,7 +75,7 @@ first_real c es r n =
     else real.Off))
 
 -- a simulated cluster after a journal, of which nothing was drawn yet
-abbrev pub first_world : Cluster → List Event → World
+abbrev pub first_world : Cluster → List Event → RealWorld
 first_world c es = record {
   nodes = λ n. standing_by c (last_sign n es);
   cells = first_real c es;
@@ -90,10 +90,11 @@ risen real.Rising = real.Started
 risen real.Started = real.Started
 risen real.Promoted = real.Promoted
 
--- one cell changes, or all of a node
+-- the cell of a leaf on a node changes so, and no other
 abbrev pub with_changed_cell : ℕ → ℕ → (Real → Real) → Cells → Cells
 with_changed_cell leaf node change cells r n = if is_same_cell r n leaf node then change (cells r n) else cells r n
 
+-- nothing runs on this node any more
 abbrev pub without_node : ℕ → Cells → Cells
 without_node node cells r n = if node == n then real.Off else cells r n
 

@@ -13,13 +13,14 @@ use Rattle.simulated.specs.declared.turn.Fate.TheVariants as fate
 use Rattle.simulated.specs.declared.turn.Turn.{Turn}
 use Rattle.simulated.specs.declared.turn.Turn.TheVariants as turn
 use Rattle.cases.specs.Draws.{draw}
-use Rattle.simulated.specs.RealWorlds.{Cells, World, begun, done, given_up, is_node_off, is_node_up, risen, true_code, undone, without_node}
+use Rattle.simulated.specs.RealWorlds.{Cells, RealWorld, begun, done, given_up, is_node_off, is_node_up, risen, true_code, undone, without_node}
 
 -- how many faults a simulated cluster is given at most
 abbrev pub most_faults : ℕ
 most_faults = 16
 
--- what becomes of an action by the first number, from 0 to 19; none where no fault may be given any more
+-- what becomes of an action that ends in a turn, by the first number of the turn, from 0 to 19, or None where no fault may be given any more: by 2, 3 and 4 a
+-- fault, else it ends truly. (By 0 and 1 a node leaves or joins, if it can.)
 abbrev pub fate_by : Option ℕ → Fate
 fate_by None = fate.True
 fate_by (Some die) =
@@ -49,64 +50,65 @@ pub data Happening : Type 0 where
   node_joins : (node : ℕ) → Happening
   action_ends : (f : Fate) → Happening
 
--- the same, with how many numbers were drawn by then
-pub record HappensBehind : Type 0 where
+-- what happens, and how many numbers were drawn in all when that is decided
+pub record DrawnHappening : Type 0 where
   pub happens : Happening
   pub drawn : ℕ
 
-abbrev pub happens_behind : Happening → ℕ → HappensBehind
-happens_behind happens drawn = record { happens = happens; drawn = drawn }
+-- the same, put together
+abbrev pub happening_behind : Happening → ℕ → DrawnHappening
+happening_behind happens drawn = record { happens = happens; drawn = drawn }
 
--- the number that is drawn next, behind so many, below a bound
-abbrev pub drawn_next : ℕ → ℕ → ℕ → ℕ
-drawn_next number drawn bound = draw number (drawn + 1) bound
+-- the number that is drawn next, below a bound, when so many were drawn before it. So after it `drawn + 1` were drawn
+abbrev pub number_drawn_next : ℕ → ℕ → ℕ → ℕ
+number_drawn_next number drawn bound = draw number (drawn + 1) bound
 
--- the first number decides what comes. It is drawn in any case, and counts while a fault may be given
-abbrev pub first_number : ℕ → World → Option ℕ
-first_number number w = if nat_lt w.faults most_faults then Some (drawn_next number w.drawn 20) else None
+-- the first number of a turn, from 0 to 19, which decides what comes. It is drawn in each turn, but counts only while a fault may be given; else this is `None`
+abbrev pub first_number : ℕ → RealWorld → Option ℕ
+first_number number w = if nat_lt w.faults most_faults then Some (number_drawn_next number w.drawn 20) else None
 
--- the turn, with this place of those in flight
-abbrev pub turn_by : Happening → ℕ → Turn
-turn_by (node_leaves node) place = turn.Leaves node
-turn_by (node_joins node) place = turn.Joins node
-turn_by (action_ends f) place = turn.Ends place f
+-- the turn by what happens; if an action ends, it is the one at this place among those in flight
+abbrev pub turn_at_place : Happening → ℕ → Turn
+turn_at_place (node_leaves node) place = turn.Leaves node
+turn_at_place (node_joins node) place = turn.Joins node
+turn_at_place (action_ends f) place = turn.Ends place f
 
--- how many numbers are drawn in all: for an action that ends one more
-abbrev pub drawn_by : Happening → ℕ → ℕ
-drawn_by (node_leaves node) drawn = drawn
-drawn_by (node_joins node) drawn = drawn
-drawn_by (action_ends f) drawn = drawn + 1
+-- how many numbers were drawn in all at the end of the turn, when so many were drawn as what happens was decided: one more if an action ends, for its place
+abbrev pub count_drawn : Happening → ℕ → ℕ
+count_drawn (node_leaves node) drawn = drawn
+count_drawn (node_joins node) drawn = drawn
+count_drawn (action_ends f) drawn = drawn + 1
 
-module _ (c : Cluster) (number : ℕ) (w : World) where
-  -- a node is drawn next. If it is one that stands so, this happens of it; else an action ends truly
-  abbrev pub of_node : (Standing → Bool) → (ℕ → Happening) → ℕ → HappensBehind
-  of_node stands happens drawn =
-      happens_behind (if nat_lt (drawn_next number drawn (length c.nodes)) (length c.nodes) && stands (w.nodes (drawn_next number drawn (length c.nodes)))
-      then happens (drawn_next number drawn (length c.nodes)) else action_ends fate.True) (drawn + 1)
+module _ (c : Cluster) (number : ℕ) (w : RealWorld) where
+  -- a node is drawn next, when so many numbers were drawn before. If the node stands so, this happens to it; else an action ends truly
+  abbrev pub by_drawn_node : (Standing → Bool) → (ℕ → Happening) → ℕ → DrawnHappening
+  by_drawn_node stands happens drawn =
+      happening_behind (if nat_lt (number_drawn_next number drawn (length c.nodes)) (length c.nodes) && stands (w.nodes (number_drawn_next number drawn (length c.nodes)))
+      then happens (number_drawn_next number drawn (length c.nodes)) else action_ends fate.True) (drawn + 1)
 
-  -- what happens by the first number, where so many were drawn by then
-  abbrev pub happens_by : Option ℕ → ℕ → HappensBehind
-  happens_by None drawn = happens_behind (action_ends fate.True) drawn
-  happens_by (Some die) drawn =
-      if die == 0 then of_node is_node_up node_leaves drawn
-      else (if die == 1 then of_node is_node_off node_joins drawn
-      else happens_behind (action_ends (fate_by (Some die))) drawn)
+  -- what happens by the first number of a turn, if it counts, when so many numbers were drawn in all, that one among them
+  abbrev pub by_first_number : Option ℕ → ℕ → DrawnHappening
+  by_first_number None drawn = happening_behind (action_ends fate.True) drawn
+  by_first_number (Some die) drawn =
+      if die == 0 then by_drawn_node is_node_up node_leaves drawn
+      else (if die == 1 then by_drawn_node is_node_off node_joins drawn
+      else happening_behind (action_ends (fate_by (Some die))) drawn)
 
-  -- what happens next
-  abbrev pub happening : HappensBehind
-  happening = happens_by (first_number number w) (w.drawn + 1)
+  -- what happens in the next turn: its first number is drawn, and so `w.drawn + 1` numbers in all before a node is
+  abbrev pub next_happening : DrawnHappening
+  next_happening = by_first_number (first_number number w) (w.drawn + 1)
 
-  -- what comes next, with so many actions in flight
-  abbrev pub turn_of : ℕ → Turn
-  turn_of count = turn_by happening.happens (drawn_next number happening.drawn count)
+  -- the turn that comes next, with so many actions in flight
+  abbrev pub next_turn : ℕ → Turn
+  next_turn count = turn_at_place next_happening.happens (number_drawn_next number next_happening.drawn count)
 
   -- the simulated cluster when the turn comes: what comes up has come up, and the numbers are drawn
-  abbrev pub turned : World
-  turned = record { nodes = w.nodes; cells = λ r n. risen (w.cells r n); drawn = drawn_by happening.happens happening.drawn; faults = w.faults }
+  abbrev pub world_at_turn : RealWorld
+  world_at_turn = record { nodes = w.nodes; cells = λ r n. risen (w.cells r n); drawn = count_drawn next_happening.happens next_happening.drawn; faults = w.faults }
 
-module _ (c : Cluster) (w : World) where
+module _ (c : Cluster) (w : RealWorld) where
   -- a node has left: what runs there runs on where nodes are fenced, and has stopped where they aren't
-  abbrev pub after_leaving : ℕ → World
+  abbrev pub after_leaving : ℕ → RealWorld
   after_leaving node = record {
     nodes = with_node node (if c.properties.fencing then standing.Lost else standing.Off) w.nodes;
     cells = if c.properties.fencing then w.cells else without_node node w.cells;
@@ -115,7 +117,7 @@ module _ (c : Cluster) (w : World) where
   }
 
   -- a node has joined, and nothing runs there
-  abbrev pub after_joining : ℕ → World
+  abbrev pub after_joining : ℕ → RealWorld
   after_joining node = record {
     nodes = with_node node standing.Up w.nodes;
     cells = without_node node w.cells;
@@ -138,7 +140,7 @@ module _ (c : Cluster) (w : World) where
   nodes_after fate.TimedOut a = w.nodes
 
   -- an action has ended
-  abbrev pub after_end : Fate → Action → World
+  abbrev pub after_end : Fate → Action → RealWorld
   after_end f a = record {
     nodes = nodes_after f a;
     cells = cells_after f a;
@@ -154,10 +156,10 @@ module _ (c : Cluster) (w : World) where
   answer_by_fate fate.TimedOut k a = answer.Timeout k
 
   -- an action has begun
-  abbrev pub after_begin : Action → World
+  abbrev pub after_begin : Action → RealWorld
   after_begin a = record { nodes = w.nodes; cells = begun c a w.cells; drawn = w.drawn; faults = w.faults }
 
--- what may come with so many actions in flight, where so many faults were given: a fault only while one may be given
+-- what may come with so many actions in flight, one or more, where so many faults were given: a fault only while one may be given
 abbrev pub MayCome : ℕ → ℕ → Turn → Type 0
 MayCome count faults (turn.Leaves node) = faults < most_faults
 MayCome count faults (turn.Joins node) = faults < most_faults

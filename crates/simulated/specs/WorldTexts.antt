@@ -9,7 +9,7 @@ use Rattle.cluster_types.specs.Runs.{RunStanding, due, idle}
 use Rattle.cluster_types.specs.Texts.{leaf_on, run_lines, run_text}
 use Rattle.simulated.specs.declared.real.Real.{Real}
 use Rattle.simulated.specs.declared.real.Real.TheVariants as real
-use Rattle.simulated.specs.RealWorlds.{Cells, World, found_at}
+use Rattle.simulated.specs.RealWorlds.{Cells, RealWorld, found_at}
 use Rattle.simulated.specs.Worlds.{IsWorldRun}
 
 -- how many transitions are made at most
@@ -44,7 +44,7 @@ pub data IsAtEnd : Bool → RunStanding → Type 0 where
 -- the run of the simulated cluster of a number from a journal on, to its end: its transitions, what really runs then, and whether it is over
 module _ (c : Cluster) (journal : Journal) (number : ℕ) where
   -- the run has come to its end with these lines, and the simulated cluster to this
-  pub record IsLived (run : Run) (over : Bool) (w : World) : Type 0 where
+  pub record IsLived (run : Run) (over : Bool) (w : RealWorld) : Type 0 where
     pub at : RunStanding
     pub goes : IsWorldRun c journal.promotions number journal.events (run_lines c run) at w
     pub few : length run.passed ≤ most_transitions
@@ -54,6 +54,6 @@ module _ (c : Cluster) (journal : Journal) (number : ℕ) where
   pub record IsWorldText (text : List ℕ) : Type 0 where
     pub run : Run
     pub over : Bool
-    pub world : World
+    pub world : RealWorld
     pub lived : IsLived run over world
     pub printed : text ≡ run_text c run ++ (real_lines c world.cells ++ ending over)

@@ -6,7 +6,7 @@ ghost use Rattle.cluster_types.specs.Valid.{KeepsLimits};
 ghost use Rattle.simulated.specs.declared.turn.Fate.TheVariants as fate;
 ghost use Rattle.simulated.specs.KeptReality.{ListsCells, IsOfSame, ShowsWorld};
 ghost use Rattle.simulated.specs.Turns.{after_end, after_joining, after_leaving, answer_by_fate, is_fault};
-ghost use Rattle.simulated.specs.RealWorlds.{Cells, World, without_node};
+ghost use Rattle.simulated.specs.RealWorlds.{Cells, RealWorld, without_node};
 
 use crate::acts::{act, true_code, undo};
 use crate::cells::clear_node;
@@ -35,7 +35,7 @@ impl Reality<'_> {
     /// A node leaves without a word. It is said so. It asks that fewer than 16 faults were given.
     pub fn leave(&mut self, node: NodeId) -> Answer
         requires { self.old.faults < 16 }
-        ensures shows { (w : World) → ShowsWorld self.old w → ShowsWorld self.new (after_leaving self.old.cluster w node) }
+        ensures shows { (w : RealWorld) → ShowsWorld self.old w → ShowsWorld self.new (after_leaving self.old.cluster w node) }
         ensures answer { result ≡ answer.Lost node }
         ensures same { IsOfSame self.old self.new }
     {
@@ -48,7 +48,7 @@ impl Reality<'_> {
     /// A node joins. It is said so. It asks that fewer than 16 faults were given.
     pub fn join(&mut self, node: NodeId) -> Answer
         requires { self.old.faults < 16 }
-        ensures shows { (w : World) → ShowsWorld self.old w → ShowsWorld self.new (after_joining self.old.cluster w node) }
+        ensures shows { (w : RealWorld) → ShowsWorld self.old w → ShowsWorld self.new (after_joining self.old.cluster w node) }
         ensures answer { result ≡ answer.Up node }
         ensures same { IsOfSame self.old self.new }
     {
@@ -60,8 +60,8 @@ impl Reality<'_> {
 
     /// An action does what it is for, and its agent says what is so.
     fn end_truly(&mut self, number: u32, action: Action) -> Answer
-        ensures answer { (w : World) → ShowsWorld self.old w → result ≡ answer_by_fate self.old.cluster w fate.True number action }
-        ensures shows { (w : World) → ShowsWorld self.old w → ShowsWorld self.new (after_end self.old.cluster w fate.True action) }
+        ensures answer { (w : RealWorld) → ShowsWorld self.old w → result ≡ answer_by_fate self.old.cluster w fate.True number action }
+        ensures shows { (w : RealWorld) → ShowsWorld self.old w → ShowsWorld self.new (after_end self.old.cluster w fate.True action) }
         ensures same { IsOfSame self.old self.new }
     {
         let code = true_code(self.cluster, action, self.cells.as_slice());
@@ -73,8 +73,8 @@ impl Reality<'_> {
     /// An action does what it is for, and its agent says that it failed.
     fn end_badly(&mut self, number: u32, action: Action) -> Answer
         requires { self.old.faults < 16 }
-        ensures answer { (w : World) → ShowsWorld self.old w → result ≡ answer_by_fate self.old.cluster w fate.DoneBadly number action }
-        ensures shows { (w : World) → ShowsWorld self.old w → ShowsWorld self.new (after_end self.old.cluster w fate.DoneBadly action) }
+        ensures answer { (w : RealWorld) → ShowsWorld self.old w → result ≡ answer_by_fate self.old.cluster w fate.DoneBadly number action }
+        ensures shows { (w : RealWorld) → ShowsWorld self.old w → ShowsWorld self.new (after_end self.old.cluster w fate.DoneBadly action) }
         ensures same { IsOfSame self.old self.new }
     {
         self.faults += 1;
@@ -88,8 +88,8 @@ impl Reality<'_> {
     /// An action does nothing, and its agent says that it failed.
     fn end_undone(&mut self, number: u32, action: Action) -> Answer
         requires { self.old.faults < 16 }
-        ensures answer { (w : World) → ShowsWorld self.old w → result ≡ answer_by_fate self.old.cluster w fate.Undone number action }
-        ensures shows { (w : World) → ShowsWorld self.old w → ShowsWorld self.new (after_end self.old.cluster w fate.Undone action) }
+        ensures answer { (w : RealWorld) → ShowsWorld self.old w → result ≡ answer_by_fate self.old.cluster w fate.Undone number action }
+        ensures shows { (w : RealWorld) → ShowsWorld self.old w → ShowsWorld self.new (after_end self.old.cluster w fate.Undone action) }
         ensures same { IsOfSame self.old self.new }
     {
         self.faults += 1;
@@ -104,8 +104,8 @@ impl Reality<'_> {
     fn time_out(&mut self, number: u32, action: Action) -> Answer
         requires few { self.old.faults < 16 }
         requires calm { self.old.rising ≡ None }
-        ensures answer { (w : World) → ShowsWorld self.old w → result ≡ answer_by_fate self.old.cluster w fate.TimedOut number action }
-        ensures shows { (w : World) → ShowsWorld self.old w → ShowsWorld self.new (after_end self.old.cluster w fate.TimedOut action) }
+        ensures answer { (w : RealWorld) → ShowsWorld self.old w → result ≡ answer_by_fate self.old.cluster w fate.TimedOut number action }
+        ensures shows { (w : RealWorld) → ShowsWorld self.old w → ShowsWorld self.new (after_end self.old.cluster w fate.TimedOut action) }
         ensures same { IsOfSame self.old self.new }
     {
         self.faults += 1;
@@ -118,8 +118,8 @@ impl Reality<'_> {
     pub fn end(&mut self, number: u32, action: Action, fate: Fate) -> Answer
         requires few { is_fault fate ≡ true → self.old.faults < 16 }
         requires calm { self.old.rising ≡ None }
-        ensures answer { (w : World) → ShowsWorld self.old w → result ≡ answer_by_fate self.old.cluster w fate number action }
-        ensures shows { (w : World) → ShowsWorld self.old w → ShowsWorld self.new (after_end self.old.cluster w fate action) }
+        ensures answer { (w : RealWorld) → ShowsWorld self.old w → result ≡ answer_by_fate self.old.cluster w fate number action }
+        ensures shows { (w : RealWorld) → ShowsWorld self.old w → ShowsWorld self.new (after_end self.old.cluster w fate action) }
         ensures same { IsOfSame self.old self.new }
     {
         match fate {

@@ -11,20 +11,20 @@ ghost use Rattle.cluster_types.specs.Steps.{Transition};
 ghost use Rattle.cluster_types.specs.Valid.{IsValid};
 ghost use Rattle.simulated.specs.KeptReality.{ShowsWorld};
 ghost use Rattle.simulated.specs.Lives.{NoSecondCopyReally};
-ghost use Rattle.simulated.specs.RealWorlds.{World as WorldAt};
+ghost use Rattle.simulated.specs.RealWorlds.{RealWorld};
 ghost use Rattle.simulated.specs.RunsWithin.{IsLivedWithin, RunsWithin};
 ghost use Rattle.simulated.specs.Worlds.{Agrees, IsWorldRun, WorldOf};
 
 /// What is kept of a simulated cluster that agrees with a journal runs only what may run by it.
 pub fn worlds_that_agree_run_what_may_run()
-    ensures { (k : WorldOf) (c : ClusterOf) (es : List EventOf) (taken : ℕ) (w : WorldAt) → Agrees k c es taken → ShowsWorld k.reality w → RunsWithin c es w }
+    ensures { (k : WorldOf) (c : ClusterOf) (es : List EventOf) (taken : ℕ) (w : RealWorld) → Agrees k c es taken → ShowsWorld k.reality w → RunsWithin c es w }
 {}
 
 /// At every moment of the run of a simulated cluster, what really runs may run: wherever the run has stood, the simulated
 /// cluster has come to the journal there, and each node stands as that journal shows, what is there may run there, and what
 /// is promoted may be promoted.
 pub fn each_moment_runs_what_may_run()
-    ensures { (c : ClusterOf) (promotions : List PromotionOf) (number : ℕ) (es : List EventOf) (lines before after : List LineOf) (at later : RunStanding) (w : WorldAt)
+    ensures { (c : ClusterOf) (promotions : List PromotionOf) (number : ℕ) (es : List EventOf) (lines before after : List LineOf) (at later : RunStanding) (w : RealWorld)
         → IsWorldRun c promotions number es lines later w → Runs c promotions true (due 1 es) None before at None → Runs c promotions true at None after later None
         → IsLivedWithin c number es (journal_at at) }
 {}

@@ -5,7 +5,7 @@ ghost use Rattle.std.specs.List.{flat_map, range_with_len};
 ghost use Rattle.cluster_types.specs.Texts as texts;
 ghost use Rattle.cluster_types.specs.Valid.{KeepsLimits};
 ghost use Rattle.simulated.specs.KeptReality.{ShowsWorld};
-ghost use Rattle.simulated.specs.RealWorlds.{World as WorldAt};
+ghost use Rattle.simulated.specs.RealWorlds.{RealWorld};
 ghost use Rattle.simulated.specs.WorldTexts as spec;
 
 use crate::{Real, World};
@@ -58,7 +58,7 @@ fn push_row(
 ) -> Result<(), NoMemory>
     requires limits { KeepsLimits cluster.now }
     requires same { world.now.reality.cluster ≡ cluster.now }
-    ensures { (w : WorldAt) → ShowsWorld world.now.reality w → OnOk result (text.new.items ≡ text.old.items ++ spec.real_row cluster.now w.cells leaf) }
+    ensures { (w : RealWorld) → ShowsWorld world.now.reality w → OnOk result (text.new.items ≡ text.old.items ++ spec.real_row cluster.now w.cells leaf) }
 {
     for node in 0..cluster.nodes.len() as u32 {
         push_real(text, cluster, leaf, node, world.real(leaf, node))?;
@@ -74,7 +74,7 @@ pub(crate) fn push_real_lines(
 ) -> Result<(), NoMemory>
     requires limits { KeepsLimits cluster.now }
     requires same { world.now.reality.cluster ≡ cluster.now }
-    ensures { (w : WorldAt) → ShowsWorld world.now.reality w → OnOk result (text.new.items ≡ text.old.items ++ spec.real_lines cluster.now w.cells) }
+    ensures { (w : RealWorld) → ShowsWorld world.now.reality w → OnOk result (text.new.items ≡ text.old.items ++ spec.real_lines cluster.now w.cells) }
 {
     for leaf in 0..cluster.leaves.len() as u32 {
         push_row(text, cluster, world, leaf)?;

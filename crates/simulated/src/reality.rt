@@ -7,7 +7,7 @@ ghost use Rattle.simulated.specs.KeptReality.{IsOfSame, ListsCells, NoneRises, S
 ghost use Rattle.simulated.specs.Turns.{after_begin};
 ghost use Rattle.simulated.specs.Inner.Turns.{calm, with_draws};
 ghost use Rattle.simulated.specs.RealWorlds as worlds;
-ghost use Rattle.simulated.specs.RealWorlds.{Cells, World};
+ghost use Rattle.simulated.specs.RealWorlds.{Cells, RealWorld};
 
 use crate::acts::begin;
 use crate::cells::found_at;
@@ -72,14 +72,14 @@ impl<'c> Reality<'c> {
     /// What a leaf really does on a node; where the cluster has no such cell, nothing.
     pub fn real(&self, leaf: LeafId, node: NodeId) -> Real
         ensures kept { (held : Cells) → ListsCells self.now.cluster self.now.cells held → result ≡ worlds.found_at self.now.cluster held leaf node }
-        ensures shown { (w : World) → ShowsWorld self.now w → result ≡ worlds.found_at self.now.cluster w.cells leaf node }
+        ensures shown { (w : RealWorld) → ShowsWorld self.now w → result ≡ worlds.found_at self.now.cluster w.cells leaf node }
     {
         found_at(self.cluster, leaf, node, self.cells.as_slice())
     }
 
     /// An action begins. Once a migration is sent, its leaf runs on the target too, if it is there on the source.
     pub fn begin(&mut self, action: Action)
-        ensures shows { (w : World) → ShowsWorld self.old w → ShowsWorld self.new (after_begin self.old.cluster w action) }
+        ensures shows { (w : RealWorld) → ShowsWorld self.old w → ShowsWorld self.new (after_begin self.old.cluster w action) }
         ensures same { IsOfSame self.old self.new }
     {
         begin(self.cluster, action, &mut self.cells);
@@ -87,7 +87,7 @@ impl<'c> Reality<'c> {
 
     /// What comes up has come up.
     pub(crate) fn settle(&mut self)
-        ensures shows { (w : World) → ShowsWorld self.old w → ShowsWorld self.new (calm w) }
+        ensures shows { (w : RealWorld) → ShowsWorld self.old w → ShowsWorld self.new (calm w) }
         ensures none { self.new.rising ≡ None }
         ensures faults { self.new.faults ≡ self.old.faults }
         ensures same { IsOfSame self.old self.new }
@@ -99,9 +99,9 @@ impl<'c> Reality<'c> {
     /// The next number that is drawn, below the bound.
     pub(crate) fn draw(&mut self, bound: u32) -> u32
         requires { 0 < bound }
-        ensures drawn { (w : World) → ShowsWorld self.old w → result ≡ drawing.draw self.old.number (w.drawn + 1) bound }
+        ensures drawn { (w : RealWorld) → ShowsWorld self.old w → result ≡ drawing.draw self.old.number (w.drawn + 1) bound }
         ensures low { result < bound }
-        ensures shows { (w : World) → ShowsWorld self.old w → ShowsWorld self.new (with_draws w 1) }
+        ensures shows { (w : RealWorld) → ShowsWorld self.old w → ShowsWorld self.new (with_draws w 1) }
         ensures rising { self.new.rising ≡ self.old.rising }
         ensures faults { self.new.faults ≡ self.old.faults }
         ensures same { IsOfSame self.old self.new }

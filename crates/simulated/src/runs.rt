@@ -6,12 +6,12 @@ ghost use Rattle.cluster_types.specs.declared.journal.Journal.{Journal as Journa
 ghost use Rattle.cluster_types.specs.declared.run.Run.{Run as RunOf};
 ghost use Rattle.cluster_types.specs.Journals.{in_flight_by_begin};
 ghost use Rattle.cluster_types.specs.Texts.{run_lines};
-ghost use Rattle.simulated.specs.RealWorlds.{World as WorldAt};
+ghost use Rattle.simulated.specs.RealWorlds.{RealWorld};
 ghost use Rattle.simulated.specs.WorldTexts.{IsLived, IsWorldText};
 
 /// The run of a simulated cluster is one, where nothing is in flight at first: it ends at one place, with one list of lines, in one way, and with one world.
 pub fn simulated_runs_are_unique()
-    ensures { (c : ClusterOf) (journal : JournalOf) (number : ℕ) (run other : RunOf) (over ended : Bool) (w last : WorldAt)
+    ensures { (c : ClusterOf) (journal : JournalOf) (number : ℕ) (run other : RunOf) (over ended : Bool) (w last : RealWorld)
         → in_flight_by_begin journal.events ≡ [] → (one : IsLived c journal number run over w) → (two : IsLived c journal number other ended last)
         → (one.at ≡ two.at) × (run_lines c run ≡ run_lines c other) × (over ≡ ended) × (w ≡ last) }
 {}

@@ -7,7 +7,7 @@ ghost use Rattle.cluster_types.specs.Safety.{IsAtRest};
 ghost use Rattle.cluster_types.specs.Valid.{IsValid, KeepsLimits};
 ghost use Rattle.trace_text.specs.RunLines.{HasShortNames};
 ghost use Rattle.simulated.specs.KeptReality.{ShowsWorld};
-ghost use Rattle.simulated.specs.RealWorlds.{World as WorldAt};
+ghost use Rattle.simulated.specs.RealWorlds.{RealWorld};
 ghost use Rattle.simulated.specs.WorldTexts as spec;
 ghost use Rattle.simulated.specs.WorldTexts.{IsLived, IsWorldText};
 
@@ -42,7 +42,7 @@ fn text_of(
     requires limits { KeepsLimits cluster.now }
     requires numbers { length lived.now.run.passed + 1 < 2 ^ 32 }
     requires same { world.now.reality.cluster ≡ cluster.now }
-    ensures { (journal : JournalOf) (number : ℕ) (w : WorldAt) → IsLived cluster.now journal number lived.now.run lived.now.over w
+    ensures { (journal : JournalOf) (number : ℕ) (w : RealWorld) → IsLived cluster.now journal number lived.now.run lived.now.over w
         → ShowsWorld world.now.reality w → IfOk result (λ text. IsWorldText cluster.now journal number text.items) }
 {
     let mut text = run_text(alloc, cluster, &lived.run)?;

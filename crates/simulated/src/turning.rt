@@ -6,9 +6,9 @@ ghost use Rattle.simulated.specs.KeptReality.{IsOfSame, ShowsWorld};
 ghost use Rattle.simulated.specs.Inner.NodeTurns as node_turns;
 ghost use Rattle.simulated.specs.Inner.NodeTurns.{IsForNode, IsOfNode, draws_for_node};
 ghost use Rattle.simulated.specs.Turns as turns;
-ghost use Rattle.simulated.specs.Turns.{MayCome, first_number, turn_of, turned};
+ghost use Rattle.simulated.specs.Turns.{MayCome, first_number, next_turn, world_at_turn};
 ghost use Rattle.simulated.specs.Inner.Turns.{with_draws};
-ghost use Rattle.simulated.specs.RealWorlds.{World};
+ghost use Rattle.simulated.specs.RealWorlds.{RealWorld};
 
 use crate::nodes::node_turn;
 use crate::reality::Reality;
@@ -33,8 +33,8 @@ fn fate_by(first: Option<u32>) -> Fate
 impl Reality<'_> {
     /// The first number, which decides what comes. Once all faults were given it is drawn and doesn't count.
     fn roll(&mut self) -> Option<u32>
-        ensures first { (w : World) → ShowsWorld self.old w → result ≡ first_number self.old.number w }
-        ensures shows { (w : World) → ShowsWorld self.old w → ShowsWorld self.new (with_draws w 1) }
+        ensures first { (w : RealWorld) → ShowsWorld self.old w → result ≡ first_number self.old.number w }
+        ensures shows { (w : RealWorld) → ShowsWorld self.old w → ShowsWorld self.new (with_draws w 1) }
         ensures early { IfSome result (λ die. self.new.faults < 16) }
         ensures rising { self.new.rising ≡ self.old.rising }
         ensures same { IsOfSame self.old self.new }
@@ -49,9 +49,9 @@ impl Reality<'_> {
 
     /// A node is drawn. Where the cluster has none, it isn't one of it.
     fn draw_node(&mut self) -> NodeId
-        ensures drawn { (w : World) → ShowsWorld self.old w → 0 < length self.old.cluster.nodes
+        ensures drawn { (w : RealWorld) → ShowsWorld self.old w → 0 < length self.old.cluster.nodes
             → result ≡ drawing.draw self.old.number (w.drawn + 1) (length self.old.cluster.nodes) }
-        ensures shows { (w : World) → ShowsWorld self.old w → ShowsWorld self.new (with_draws w 1) }
+        ensures shows { (w : RealWorld) → ShowsWorld self.old w → ShowsWorld self.new (with_draws w 1) }
         ensures rising { self.new.rising ≡ self.old.rising }
         ensures faults { self.new.faults ≡ self.old.faults }
         ensures same { IsOfSame self.old self.new }
@@ -62,8 +62,8 @@ impl Reality<'_> {
 
     /// What comes of a node, by the first number, if anything does.
     fn node_turn(&mut self, first: Option<u32>) -> Option<Turn>
-        ensures turn { (w : World) → ShowsWorld self.old w → result ≡ node_turns.node_turn self.old.cluster self.old.number w first }
-        ensures shows { (w : World) → ShowsWorld self.old w → ShowsWorld self.new (with_draws w (draws_for_node first)) }
+        ensures turn { (w : RealWorld) → ShowsWorld self.old w → result ≡ node_turns.node_turn self.old.cluster self.old.number w first }
+        ensures shows { (w : RealWorld) → ShowsWorld self.old w → ShowsWorld self.new (with_draws w (draws_for_node first)) }
         ensures node { IfSome result IsOfNode }
         ensures low { IfSome result (λ turn. IsForNode first) }
         ensures rising { self.new.rising ≡ self.old.rising }
@@ -83,8 +83,8 @@ impl Reality<'_> {
     /// What comes next, with so many actions in flight. What comes up has come up then. It asks for one at least.
     pub fn turn(&mut self, count: u32) -> Turn
         requires { 0 < count }
-        ensures turn { (w : World) → ShowsWorld self.old w → result ≡ turn_of self.old.cluster self.old.number w count }
-        ensures shows { (w : World) → ShowsWorld self.old w → ShowsWorld self.new (turned self.old.cluster self.old.number w) }
+        ensures turn { (w : RealWorld) → ShowsWorld self.old w → result ≡ next_turn self.old.cluster self.old.number w count }
+        ensures shows { (w : RealWorld) → ShowsWorld self.old w → ShowsWorld self.new (world_at_turn self.old.cluster self.old.number w) }
         ensures may { MayCome count self.new.faults result }
         ensures calm { self.new.rising ≡ None }
         ensures same { IsOfSame self.old self.new }

@@ -6,7 +6,7 @@ ghost use Rattle.cluster_types.specs.Valid.{KeepsLimits};
 ghost use Rattle.state_unpack.specs.Knowledge.{has_few_monitors};
 ghost use Rattle.simulated.specs.Worlds.{Agrees};
 ghost use Rattle.simulated.specs.KeptReality.{ShowsWorld};
-ghost use Rattle.simulated.specs.RealWorlds.{World as WorldAt, found_at};
+ghost use Rattle.simulated.specs.RealWorlds.{RealWorld, found_at};
 
 use crate::first::first_reality;
 use crate::{Real, Reality, Turn};
@@ -63,7 +63,7 @@ impl<'c> World<'c> {
 
     /// What a leaf really does on a node; where the cluster has no such cell, nothing.
     pub fn real(&self, leaf: LeafId, node: NodeId) -> Real
-        ensures { (w : WorldAt) → ShowsWorld self.now.reality w → result ≡ found_at self.now.reality.cluster w.cells leaf node }
+        ensures { (w : RealWorld) → ShowsWorld self.now.reality w → result ≡ found_at self.now.reality.cluster w.cells leaf node }
     {
         self.reality.real(leaf, node)
     }

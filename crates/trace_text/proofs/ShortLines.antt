@@ -19,7 +19,7 @@ use Rattle.cluster_types.specs.declared.placement.Target.TheVariants as target
 use Rattle.cluster_types.specs.Texts.{action_text, answer_text, pin_text, reason_text, run_line, target_text}
 use Rattle.trace_text.specs.declared.run_line_ref.RunLineRef.{RunLineRef}
 use Rattle.trace_text.specs.declared.run_line_ref.RunLineRef.TheVariants as lent
-use Rattle.trace_text.specs.RunLines.{HasName, HasShortNames, IsReasonNamed, lent_line}
+use Rattle.trace_text.specs.RunLines.{HasNamedRule, HasShortNames, IsReasonNamed, lent_line}
 use Rattle.trace_text.proofs.ShortNames.{short_name}
 
 -- what is added where there is room for so much
@@ -86,7 +86,7 @@ module _ (c : Cluster) (names : HasShortNames c) where
   short_reason NoNode h = omega arith
   short_reason (Held id) h = simp length-append (omega (arith, short_name id h))
 
-  pub short_line : (l : RunLineRef) → HasName l → length (run_line c (lent_line l)) < 1024
+  pub short_line : (l : RunLineRef) → HasNamedRule l → length (run_line c (lent_line l)) < 1024
   short_line (lent.Transition k) named = simp length-append (omega (arith, few_digits k))
   short_line (lent.Complete k) named = simp length-append (omega (arith, few_digits k))
   short_line (lent.Aborted k) named = simp length-append (omega (arith, few_digits k))

@@ -34,6 +34,6 @@ IsReasonNamed (Held id) = is_name id ≡ true
 IsReasonNamed _ = Unit {0}
 
 -- where the line says which rule holds a leaf back, its id is a name
-abbrev pub HasName : RunLineRef → Type 0
-HasName (lent.Lacking r reason) = IsReasonNamed reason.now
-HasName _ = Unit {0}
+abbrev pub HasNamedRule : RunLineRef → Type 0
+HasNamedRule (lent.Lacking r reason) = IsReasonNamed reason.now
+HasNamedRule _ = Unit {0}

@@ -4,7 +4,7 @@ ghost use Rattle.std.specs.Prelude.{◌≡◌, ◌<◌, ◌≤◌, ◌++◌, cod
 ghost use Rattle.cluster_types.specs.Fields.{leaf_name};
 ghost use Rattle.cluster_types.specs.declared.run.RunLine.TheVariants as line;
 ghost use Rattle.cluster_types.specs.Texts as texts;
-ghost use Rattle.trace_text.specs.RunLines.{HasName, HasShortNames, lent_line};
+ghost use Rattle.trace_text.specs.RunLines.{HasNamedRule, HasShortNames, lent_line};
 
 use crate::line_buf::LineBuf;
 use crate::line_text::LineText;
@@ -273,7 +273,7 @@ pub(crate) fn put_line<T: LineText>(
 /// have is written as an empty name. Rule of this project.
 pub fn write_line(cluster: &Cluster, line: &RunLineRef<'_>, text: &mut LineBuf)
     requires names { HasShortNames cluster.now }
-    requires reason { HasName line.now }
+    requires reason { HasNamedRule line.now }
     ensures text { text.new ≡ texts.run_line cluster.now (lent_line line.now) }
     ensures size { length text.new < 1024 }
 {

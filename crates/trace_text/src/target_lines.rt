@@ -6,7 +6,7 @@ ghost use Rattle.cluster_types.specs.Tables.{targets_of};
 ghost use Rattle.cluster_types.specs.Texts as texts;
 ghost use Rattle.cluster_types.specs.Valid.{KeepsLimits};
 ghost use Rattle.crm_lex.specs.Names.{is_name};
-ghost use Rattle.trace_text.specs.RunLines.{HasName, lent_line};
+ghost use Rattle.trace_text.specs.RunLines.{HasNamedRule, lent_line};
 
 use crate::run_line_ref::RunLineRef;
 use crate::target_walk::{LinePlace, next_line};
@@ -52,7 +52,7 @@ impl<'a> TargetLines<'a> {
     /// The next line, or none where all are told.
     pub fn next(&mut self) -> Option<RunLineRef<'a>>
         ensures line { MatchOption result (self.old ≡ []) (λ line. self.old ≡ lent_line line ∷ self.new) }
-        ensures named { IfSome result HasName }
+        ensures named { IfSome result HasNamedRule }
     {
         next_line(
             self.cluster,

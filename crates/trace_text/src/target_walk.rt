@@ -5,7 +5,7 @@ ghost use Rattle.std.specs.List.{flat_map};
 ghost use Rattle.cluster_types.specs.Tables.{targets_of};
 ghost use Rattle.cluster_types.specs.Texts as texts;
 ghost use Rattle.cluster_types.specs.Valid.{KeepsLimits};
-ghost use Rattle.trace_text.specs.RunLines.{HasName, lent_line};
+ghost use Rattle.trace_text.specs.RunLines.{HasNamedRule, lent_line};
 ghost use Rattle.trace_text.specs.Inner.TargetWalk.{AreReasonsNamed, IsLineFound, lines_in, next_place, target_lines_from};
 
 use crate::run_line_ref::RunLineRef;
@@ -77,7 +77,7 @@ fn line_at<'a>(
     requires limits { KeepsLimits cluster.now }
     requires within { place.leaf < length cluster.now.leaves }
     ensures line { IsLineFound result (lines_in cluster.now pins.now (targets_of table.now) none.now place.leaf place.column) }
-    ensures named { AreReasonsNamed none.now → IfSome result HasName }
+    ensures named { AreReasonsNamed none.now → IfSome result HasNamedRule }
 {
     let leaf = place.leaf as u32;
     match place.column {
@@ -112,7 +112,7 @@ pub(crate) fn next_line<'a>(
     ensures line { MatchOption result (target_lines_from cluster.now pins.now (targets_of table.now) none.now place.old ≡ [])
         (λ line. target_lines_from cluster.now pins.now (targets_of table.now) none.now place.old
         ≡ lent_line line ∷ target_lines_from cluster.now pins.now (targets_of table.now) none.now place.new) }
-    ensures named { AreReasonsNamed none.now → IfSome result HasName }
+    ensures named { AreReasonsNamed none.now → IfSome result HasNamedRule }
 {
     while place.leaf < cluster.leaves.len() {
         let found = line_at(cluster, pins, table, none, *place);

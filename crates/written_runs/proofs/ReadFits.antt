@@ -11,7 +11,7 @@ use Rattle.crm_parse.specs.declared.pair.Kv.{Kv}
 use Rattle.crm_parse.specs.declared.pair.Operation.{Operation}
 use Rattle.crm_parse.specs.declared.statement.Statement.{Statement}
 use Rattle.crm_parse.specs.Operations.{interval_of, recurs, value_of}
-use Rattle.crm_parse.specs.Values.{◌>>=◌, digits_before, time_of, unit_of, up_to}
+use Rattle.crm_parse.specs.Values.{digits_before, time_of, unit_of, up_to}
 use Rattle.cluster_types.specs.declared.cluster.Cluster.{Cluster}
 use Rattle.cluster_types.specs.declared.leaf.Leaf.{Leaf}
 use Rattle.cluster_types.specs.declared.leaf.Monitor.{Monitor as MonitorOf}
@@ -42,7 +42,7 @@ up_to_most most n m e = below_case most n m (nat_le n most) refl e
 
 -- a time, and the interval of an operation
 time_case : (number unit : Option ℕ) (t : ℕ)
-    → (number >>= (λ (n : ℕ). unit >>= (λ (u : ℕ). up_to 4294967295 (n * u)))) ≡ Some t → t ≤ 4294967295
+    → option_and_then (λ n. option_and_then (λ u. up_to 4294967295 (n * u)) unit) number ≡ Some t → t ≤ 4294967295
 time_case None unit t e = cc
 time_case (Some n) None t e = cc
 time_case (Some n) (Some u) t e = up_to_most 4294967295 (n * u) t e

@@ -19,8 +19,8 @@ use Rattle.cluster_types.specs.Journals.{in_flight_by_begin}
 use Rattle.cluster_types.specs.Plans.{transition_of}
 use Rattle.cluster_types.specs.Precedence.{op_cell}
 use Rattle.cluster_types.specs.Runs.{RunStanding, due, amid, idle, RunsOn, plans, goes, completes, aborts, answers, Runs, here, journal_at}
-use Rattle.cluster_types.specs.Safety.{IsSafe, IsSafeRun, MigratesAlone}
-use Rattle.cluster_types.specs.Steps.{Transition, Goes, StepsOn, here as none_yet, begins, takes, is_silent, answer_events, journal, idling, silent_code}
+use Rattle.cluster_types.specs.Safety.{IsSafe, IsSafeRun}
+use Rattle.cluster_types.specs.Steps.{Transition, GoesBySteps, StepsOn, here as none_yet, begins, takes, is_silent, answer_events, journal, idling, silent_code}
 use Rattle.cluster_types.specs.Tables.{targets_of}
 use Rattle.cluster_types.specs.Texts.{event_lines, target_lines}
 use Rattle.cluster_types.proofs.SourceLaws.{goes-more, step-untold}
@@ -29,7 +29,7 @@ use Rattle.run_safety.proofs.InFlight.{among_flying}
 use Rattle.run_safety.proofs.Printed.{answer_line, end_line}
 use Rattle.run_safety.proofs.Rests.{none_flies}
 use Rattle.run_safety.proofs.SoFar.{runs_more}
-use Rattle.written_runs.specs.OverLines.{AreLinesSafe, HasItsLeafAlone, IsSafeBegin, LinesTell}
+use Rattle.written_runs.specs.OverLines.{AreLinesSafe, IsSafeBegin, LinesTell}
 use Rattle.written_runs.proofs.Telling.{IsOfPlanning, nothing_told, plan_lines, tell_more, told_idle, told_step}
 
 module _ (c : Cluster) (promotions : List Promotion) (whole : Bool) (first : List Event) (rest : Option (List Answer)) (at_first : in_flight_by_begin first ≡ []) where
@@ -38,7 +38,7 @@ module _ (c : Cluster) (promotions : List Promotion) (whole : Bool) (first : Lis
     is_due : (k : ℕ) (es : List Event) → UnderWay (due k es)
     is_idle : (k : ℕ) (es : List Event) → UnderWay (idle k es)
     went_on : (k : ℕ) (es : List Event) (actions : List Action) (since : List Event) → in_flight_by_begin es ≡ []
-        → Goes (transition_of c es actions) whole [] None since None → UnderWay (amid k (transition_of c es actions) since)
+        → GoesBySteps (transition_of c es actions) whole [] None since None → UnderWay (amid k (transition_of c es actions) since)
 
   -- what the lines up to a place of the run tell
   record Told (at : RunStanding) (left : Option (List Answer)) (lines : List RunLine) : Type 0 where
@@ -114,12 +114,6 @@ begun_alone k j a b [] after e f = f refl cc
 begun_alone k j a b (x ∷ []) after e f = absurd (let g : ⊥ = cc in g)
 begun_alone k j a b (x ∷ y ∷ front) after e f = absurd (let g : ⊥ = cc in g)
 
--- what is so of a migration by the events of its transition is so by the journal
-alone_by_journal : (t : Transition) (first before : List Event) (a : Action) → MigratesAlone t before a → HasItsLeafAlone t.cluster first a (journal t before)
-alone_by_journal t first before (MigrateTo r source to) h = h
-alone_by_journal t first before (MigrateFrom r source to) h = h
-alone_by_journal t first before _ h = tt
-
 module _ (c : Cluster) (promotions : List Promotion) (whole : Bool) (first : List Event) (rest : Option (List Answer)) (at_first : in_flight_by_begin first ≡ [])
     (safe : IsSafeRun c promotions whole first rest) where
   -- what the lines tell, and that they are safe
@@ -134,7 +128,7 @@ module _ (c : Cluster) (promotions : List Promotion) (whole : Bool) (first : Lis
     copies_at_start = IfSome_then (op_cell op.Start a) (is.copies since [] k a refl).0 (λ at fewer. record { journal = journal (transition_of c es actions) since; told = told; holds = fewer });
     copies_at_promote = IfSome_then (op_cell op.Promote a) (is.copies since [] k a refl).1 (λ at fewer. record { journal = journal (transition_of c es actions) since; told = told; holds = fewer });
     promoted_copies = IfSome_then (op_cell op.Promote a) (is.promotions since [] k a refl) (λ at fewer. record { journal = journal (transition_of c es actions) since; told = told; holds = fewer });
-    alone = record { journal = journal (transition_of c es actions) since; told = told; holds = alone_by_journal (transition_of c es actions) first since a (is.migrations since [] k a refl) };
+    alone = record { journal = journal (transition_of c es actions) since; told = told; holds = is.migrations since [] k a refl };
     apart = record { journal = journal (transition_of c es actions) since; told = told; holds = λ col among apart. is.neighbours since [] k a refl col among apart };
   }
 

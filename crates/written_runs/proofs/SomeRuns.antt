@@ -32,7 +32,7 @@ module _ (c : Cluster) (promotions : List Promotion) (whole : Bool) (placed_for 
   -- the run is over, asks for one answer more, or is cut
   pub data IsEnd (at : RunStanding) (rest : Option (List Answer)) : Type 0 where
     is_over : IsOver c promotions whole at rest → IsEnd at rest
-    asks_more : whole ≡ false → IsAsking c promotions whole at → rest ≡ Some [] → IsEnd at rest
+    asks_more : whole ≡ false → IsAsking at → rest ≡ Some [] → IsEnd at rest
     is_cut : (given : Answer) (left : Option (List Answer)) → IsCutAt c promotions whole at rest given left → IsEnd at rest
 
   -- from a place on the run has an end
@@ -63,7 +63,7 @@ module _ (c : Cluster) (promotions : List Promotion) (whole : Bool) (placed_for 
 
   module _ (to_come : List Answer) (next : (given : Answer) (more : List Answer) → to_come ≡ given ∷ more → (at : RunStanding) → Stands at → EndsFrom at (Some more)) where
     -- an answer is asked for, and none is left
-    asked_in_vain : (at : RunStanding) → IsAsking c promotions whole at → (whole ≡ true → EndsFrom at (Some [])) → EndsFrom at (Some [])
+    asked_in_vain : (at : RunStanding) → IsAsking at → (whole ≡ true → EndsFrom at (Some [])) → EndsFrom at (Some [])
     asked_in_vain at asking over = by whole refl
       where
         by : (b : Bool) → whole ≡ b → EndsFrom at (Some [])

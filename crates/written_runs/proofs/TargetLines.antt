@@ -18,6 +18,7 @@ use Rattle.cluster_types.specs.Reasons.{HasReason, IsFirstOf, IsHeldBy, IsHeldBy
 use Rattle.cluster_types.specs.Tables.{Targets, targets_of}
 use Rattle.cluster_types.specs.Texts.{leaf_lines, target_lines}
 use Rattle.cluster_types.specs.Valid.{IsValid}
+use Rattle.cluster_types.proofs.LeafReasons.{reason_told}
 use Rattle.input_reading.specs.PrintedLines.{IsLineOf}
 use Rattle.plan_laws.proofs.Firsts.{first_in}
 use Rattle.written_runs.proofs.Each.{all_in_range, all_of_leaf}
@@ -46,4 +47,4 @@ module _ (c : Cluster) (valid : IsValid c) where
       all_in_range (IsLineOf c) (leaf_lines c placed.pins targets placed.none) 0 (length c.leaves) (λ r up high.
       let low : r < length c.leaves = omega (arith, high) in
       all_of_leaf (IsLineOf c) c placed.pins targets placed.none r (λ pin. low) (λ n less goal somewhere. (record { leaf = low; node = less }, somewhere))
-      (λ reason e. lacking_fits es (after_decisions c es promotions (pinned_targets c es) is.decisions) targets r low reason (is.reasons r (Some reason) e)))
+      (λ reason e. lacking_fits es (after_decisions c es promotions (pinned_targets c es) is.decisions) targets r low reason (reason_told c es promotions placed is r (Some reason) e)))

@@ -16,7 +16,7 @@ use Rattle.cluster_types.specs.declared.run.RunLine.{RunLine}
 use Rattle.cluster_types.specs.declared.run.RunLine.TheVariants as line
 use Rattle.cluster_types.specs.AnswersThatApply.{added_by, is_number_of}
 use Rattle.cluster_types.specs.Journals.{AreInFlightByNumber, in_flight_by_begin}
-use Rattle.cluster_types.specs.Steps.{Transition, Goes, StepsOn, here as none_yet, begins, takes, is_silent, answer_events, in_flight_by_number, journal, idling, silent_code}
+use Rattle.cluster_types.specs.Steps.{Transition, GoesBySteps, StepsOn, here as none_yet, begins, takes, is_silent, answer_events, in_flight_by_number, journal, idling, silent_code}
 use Rattle.cluster_types.specs.Texts.{event_lines, leaf_lines, target_lines}
 use Rattle.run_safety.proofs.ByNumber.{by_number}
 use Rattle.run_safety.proofs.InFlight.{among_flying}
@@ -67,7 +67,7 @@ module _ (c : Cluster) where
   )
 
 -- what a transition does is told, where it began with nothing in flight
-module _ (t : Transition) (idle : in_flight_by_begin t.planned_at ≡ []) (whole : Bool) (since : List Event) (goes : Goes t whole [] None since None) where
+module _ (t : Transition) (idle : in_flight_by_begin t.planned_at ≡ []) (whole : Bool) (since : List Event) (goes : GoesBySteps t whole [] None since None) where
   flight : AreInFlightByNumber (journal t since) (in_flight_by_number t since)
   flight = by_number t whole None None since idle goes
 

@@ -1,4 +1,4 @@
--- Which intervals and exit codes the types of the program hold. The definitions bound them nowhere else (rule of this project).
+-- Which intervals and exit codes the types of the program hold. Whatever is read or counted has them (rule of this project).
 use Rattle.std.specs.Prelude.{◌^◌, ◌<◌, Option, Some, None, List, Contains}
 use Rattle.std.specs.List.{AllByRecursion}
 use Rattle.cluster_types.specs.declared.cluster.Cluster.{Cluster}

@@ -1,26 +1,22 @@
 -- What the lines of a run tell by themselves, and what is promised of them: for whoever reads the lines, and no definition of a run. Only the
 -- last record speaks of runs: it ties the journal that the lines tell to that of the run (rules of this project).
-use Rattle.std.specs.Prelude.{◌≡◌, ◌≢◌, ℕ, ◌<◌, ⊤, length, Bool, true, false, Option, IfSome, List, [], ◌∷◌, ◌++◌, Contains}
+use Rattle.std.specs.Prelude.{◌≡◌, ℕ, Bool, true, Option, IfSome, List, [], ◌∷◌, ◌++◌, Contains}
 use Rattle.cluster_types.specs.declared.cluster.Cluster.{Cluster}
 use Rattle.cluster_types.specs.declared.journal.Action.{Action}
-use Rattle.cluster_types.specs.declared.journal.Action.TheVariants.{MigrateTo, MigrateFrom}
 use Rattle.cluster_types.specs.declared.journal.Answer.{Answer}
 use Rattle.cluster_types.specs.declared.journal.Event.{Event}
 use Rattle.cluster_types.specs.declared.journal.Event.TheVariants.{Begin}
 use Rattle.cluster_types.specs.declared.journal.Promotion.{Promotion}
 use Rattle.cluster_types.specs.declared.leaf.Op.TheVariants as op
-use Rattle.cluster_types.specs.declared.leaf.Role.{Role}
 use Rattle.cluster_types.specs.declared.rules.Colocation.{Colocation}
 use Rattle.cluster_types.specs.declared.run.RunLine.{RunLine}
 use Rattle.cluster_types.specs.declared.run.RunLine.TheVariants as line
 use Rattle.cluster_types.specs.AnswersThatApply.{added_by}
 use Rattle.cluster_types.specs.Choice.{is_separation}
-use Rattle.cluster_types.specs.Fields.{copies, promoted_copies}
 use Rattle.cluster_types.specs.Journals.{AreInFlightByNumber}
-use Rattle.cluster_types.specs.May.{may_be_promoted, may_be_running}
-use Rattle.cluster_types.specs.Precedence.{LeafOnNode, gives_role, op_cell}
+use Rattle.cluster_types.specs.Precedence.{op_cell}
 use Rattle.cluster_types.specs.Runs.{RunStanding, due, Runs, journal_at}
-use Rattle.cluster_types.specs.Safety.{count_of_others, may_have_role}
+use Rattle.cluster_types.specs.Safety.{HasItsLeafAlone, MayBePromotedOnFewOthers, MayRunOnFewOthers, OtherIsAway}
 
 -- from this journal on some lines tell what happened, up to that later journal: a line `begin` tells that its action begins, and a line
 -- of an answer what the answer adds, by what is in flight. The other lines tell nothing that happened
@@ -43,37 +39,19 @@ module _ (c : Cluster) (first : List Event) where
     pub told : LinesTell c first lines journal
     pub holds : Holds journal
 
-  -- the leaf may run on fewer other nodes than it has copies. Of a plain resource: on none
-  abbrev pub MayRunOnFewOthers : LeafOnNode → List Event → Type 0
-  MayRunOnFewOthers at es = count_of_others c at.node (λ m. may_be_running c at.leaf m es) < copies c at.leaf
-
-  -- it may be promoted on fewer other nodes than it has promoted copies
-  abbrev pub MayBePromotedOnFewOthers : LeafOnNode → List Event → Type 0
-  MayBePromotedOnFewOthers at es = count_of_others c at.node (λ m. may_be_promoted c at.leaf m es) < promoted_copies c at.leaf
-
-  -- where the action gives the one leaf its role on a node, the other may not hold its own there
-  abbrev pub KeepsApart : Action → ℕ → Role → ℕ → Role → List Event → Type 0
-  KeepsApart a r r_role s s_role es = IfSome (gives_role r_role a) (λ at. at.leaf ≡ r → may_have_role c s s_role at.node es ≡ false)
-
-  -- a migration has its leaf to itself: where it sends, the leaf may run on no node but the source, and where it takes in, on none but the source and the
-  -- target
-  abbrev pub HasItsLeafAlone : Action → List Event → Type 0
-  HasItsLeafAlone (MigrateTo r source to) es = (m : ℕ) → m < length c.nodes → m ≢ source → may_be_running c r m es ≡ false
-  HasItsLeafAlone (MigrateFrom r source to) es = (m : ℕ) → m < length c.nodes → m ≢ source → m ≢ to → may_be_running c r m es ≡ false
-  HasItsLeafAlone _ es = ⊤
-
-  -- what is promised before a line `begin` of an action, by the one journal that the lines before it tell
+  -- what is promised before a line `begin` of an action, by a journal that the lines before it tell (`journals_that_lines_tell_are_unique`)
   pub record IsSafeBegin (before : List RunLine) (a : Action) : Type 0 where
-    pub copies_at_start : IfSome (op_cell op.Start a) (λ at. IsToldBy before (MayRunOnFewOthers at))
-    pub copies_at_promote : IfSome (op_cell op.Promote a) (λ at. IsToldBy before (MayRunOnFewOthers at))
-    pub promoted_copies : IfSome (op_cell op.Promote a) (λ at. IsToldBy before (MayBePromotedOnFewOthers at))
-    pub alone : IsToldBy before (HasItsLeafAlone a)
+    pub copies_at_start : IfSome (op_cell op.Start a) (λ at. IsToldBy before (MayRunOnFewOthers c at))
+    pub copies_at_promote : IfSome (op_cell op.Promote a) (λ at. IsToldBy before (MayRunOnFewOthers c at))
+    pub promoted_copies : IfSome (op_cell op.Promote a) (λ at. IsToldBy before (MayBePromotedOnFewOthers c at))
+    pub alone : IsToldBy before (HasItsLeafAlone c a)
     pub apart : IsToldBy before (λ es. (col : Colocation) → Contains c.colocations col → is_separation col ≡ true
-        → KeepsApart a col.dependent col.dependent_role col.primary col.primary_role es × KeepsApart a col.primary col.primary_role col.dependent col.dependent_role es)
+        → OtherIsAway c a col.dependent col.dependent_role col.primary col.primary_role es
+        × OtherIsAway c a col.primary col.primary_role col.dependent col.dependent_role es)
 
   -- before each line `begin K start LEAF NODE` or `begin K promote LEAF NODE` the leaf may run on fewer other nodes than it has copies, and where it is
   -- promoted, be so on fewer than it has promoted copies. Before `begin K migrate_to LEAF SOURCE TARGET` it may run on the source alone, and before
-  -- `migrate_from` on source and target alone. No leaf gets a role beside one from which it must be apart
+  -- `migrate_from` on source and target alone. No leaf gets a role beside one from which it must be apart and that may have its own there
   abbrev pub AreLinesSafe : List RunLine → Type 0
   AreLinesSafe lines = BeforeEachBegin IsSafeBegin lines
 

@@ -20,7 +20,7 @@ module _ (c : Cluster) (promotions : List Promotion) (es : List Event) (answers 
     pub journal_now : List Event
     pub run : IsRunSoFar c promotions false es (Some answers) lines journal_now (Some [])
 
-  -- there is a run that is cut by one of them, which doesn't apply
+  -- there is a run that is cut by one of them, which doesn't apply. `whole` says that the answers are known to be all
   pub record HasCutRun (whole : Bool) : Type 0 where
     pub lines : List RunLine
     pub journal_now : List Event

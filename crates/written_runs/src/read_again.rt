@@ -19,7 +19,7 @@ ghost use Rattle.input_reading.specs.ResultFields.{AnswerFieldsFit};
 ghost use Rattle.written_runs.specs.Fitting.{AnswersFit, IntervalsFit};
 
 /// Each line that a run of a valid cluster prints is a line of the cluster: its leaves and nodes are the cluster's, the rule that holds a leaf back has a name,
-/// and its numbers have 32 bits, as long as those of the transitions have.
+/// and its numbers have 32 bits, as long as those of the transitions, of intervals and of answers have.
 pub fn runs_print_lines_of_their_cluster()
     ensures { (c : ClusterOf) (promotions : List PromotionOf) (whole : Bool) (es : List EventOf) (rest left : Option (List AnswerOf)) (lines : List LineOf) (at : RunStanding)
         → IsValid c → IntervalsFit c → AnswersFit rest lines → Runs c promotions whole (due 1 es) rest lines at left → transition_number_at at < 2 ^ 32

@@ -1,9 +1,16 @@
 -- How the actions before one are found: the positions from which edges lead to it are marked, and then those from which edges lead to a gate that
 -- is marked (rule of this project). No public clause cites this module.
-use Rattle.std.specs.Prelude.{◌≡◌, ◌≤◌, nat_le, ◌==◌, ◌&&◌, ◌||◌, ℕ, Bool, true, List, Contains}
+use Rattle.std.specs.Prelude.{◌≡◌, ◌≤◌, nat_le, ◌==◌, ◌&&◌, ◌||◌, ℕ, suc, zero, Bool, true, false, List, Contains}
+use Rattle.std.specs.List.{list_any}
 use Rattle.listed.specs.Flags.{is_marked}
 use Rattle.edges.specs.declared.edge.Edge.{Edge}
-use Rattle.cluster_types.specs.Graphs.{LeadsByGates, leads_by_gates_within}
+use Rattle.cluster_types.specs.Graphs.{LeadsByGates}
+
+-- from position x at most so many edges lead to position y through gates alone. In a graph, as many as there are positions are enough
+abbrev pub leads_by_gates_within : ℕ → ℕ → List Edge → ℕ → ℕ → Bool
+leads_by_gates_within zero actions edges x y = false
+leads_by_gates_within (suc most) actions edges x y =
+    list_any (λ e. e.before == x && (e.after == y || nat_le actions e.after && leads_by_gates_within most actions edges e.after y)) edges
 
 -- the edge leads on from x, and after it at most so many others to y
 abbrev pub leads_by : ℕ → ℕ → List Edge → ℕ → ℕ → Edge → Bool

@@ -44,7 +44,7 @@ pub record OrderSays (words : Words) (order : OrderDraft) : Type 0 where
   pub serialize_is_one_way : order.kind ≡ Serialize → order.symmetrical ≡ false
 
 -- the resources of an order with their actions, where these have a promoted role and this is the action before the first one: each has the action that is
--- written, else it takes that of the resource before it
+-- written, else that of the resource before it, as start or stop if the resource has no promoted role
 pub data ActionsAre (promotable : Words) : ActionWord → List StepDraft → List OrderStep → Type 0 where
   no_step : (before : ActionWord) → ActionsAre promotable before [] []
   next_step : (before action : ActionWord) (step : StepDraft) (steps : List StepDraft) (others : List OrderStep) → action ≡ action_in promotable before step.resource step.action

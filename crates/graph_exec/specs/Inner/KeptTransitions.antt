@@ -18,7 +18,7 @@ use Rattle.graph_exec.specs.LastWords.{LastWord, none_failed}
 use Rattle.graph_exec.specs.KnownJournals.{KnownJournalOf}
 use Rattle.graph_exec.specs.declared.run.stop.ReplayStop.{ReplayStop}
 use Rattle.graph_exec.specs.declared.run.stop.ReplayStop.TheVariants as stop
-use Rattle.graph_exec.specs.KeptRuns.{IsPassedOfPlan, kept_word}
+use Rattle.graph_exec.specs.KeptRuns.{IsPassedOfPlan, kept_run_word}
 use Rattle.graph_exec.specs.Replays.{Setting}
 use Rattle.graph_exec.specs.Inner.Turns.{IsSaid, journal_back, plain_of}
 
@@ -49,7 +49,7 @@ pub record StaysOf (j later : KnownJournalOf) : Type 0 where
 -- the last word of the source of a transition that is kept. Out of memory it isn't told
 abbrev pub keeping_word : {T : Type 0} → Result T (Result Journal (ReplayStop Journal)) → LastWord
 keeping_word (Ok later) = none_failed
-keeping_word (Err end) = kept_word end
+keeping_word (Err end) = kept_run_word end
 
 -- the answer applies while nothing is to be done, and what it adds is in the journal
 pub record TookIdle (old new : KnownJournalOf) (given : Answer) : Type 0 where
@@ -120,7 +120,7 @@ module _ (s : Setting) (es : List Event) (first : Option (List Answer)) where
     pub record KeepsSoFar : Type 0 where
       pub last : RunStanding
       pub keeps : KeepsPassed left false passed last
-      pub asking : IsAsking s.cluster s.promotions s.whole last
+      pub asking : IsAsking last
       pub leaves : journal ≡ journal_back s last
 
   -- how it ended on the way

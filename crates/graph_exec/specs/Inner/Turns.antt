@@ -84,7 +84,7 @@ module _ (Follows : List RunLine → Type 0) (s : Setting) (from : RunStanding) 
     pub lines : List RunLine
     pub runs : Runs s.cluster s.promotions s.whole from old.rest lines last new.rest
     pub told : Follows lines
-    pub asking : IsAsking s.cluster s.promotions s.whole last
+    pub asking : IsAsking last
     pub said : s.steady ≡ true → IsSaid s from last lines old.rest new.rest
     pub not_over : s.steady ≡ true → old.over ≡ false
     pub leaves : journal ≡ journal_back s last
@@ -107,7 +107,7 @@ module _ (Follows : List RunLine → Type 0) (s : Setting) (from : RunStanding) 
     pub lines : List RunLine
     pub runs : Runs s.cluster s.promotions s.whole from old.rest lines last new.rest
     pub told : Stopped lines None
-    pub asking : IsAsking s.cluster s.promotions s.whole last
+    pub asking : IsAsking last
     pub leaves : journal ≡ journal_back s last
     pub few : transition_number_at last ≤ number
 
@@ -116,7 +116,7 @@ module _ (Follows : List RunLine → Type 0) (s : Setting) (from : RunStanding) 
     pub lines : List RunLine
     pub runs : Runs s.cluster s.promotions s.whole from old.rest lines at new.rest
     pub told : Follows lines
-    pub between : IsBetween s.cluster s.promotions s.whole at
+    pub between : IsBetween at
     pub few : transition_number_at at ≤ number
 
   -- how it ended on the way

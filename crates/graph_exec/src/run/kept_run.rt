@@ -6,7 +6,7 @@ ghost use Rattle.cluster_types.specs.Safety.{IsAtRest};
 ghost use Rattle.cluster_types.specs.Valid.{IsValid};
 ghost use Rattle.graph_exec.specs.Questions.{AskedByEnd, events_kept};
 ghost use Rattle.graph_exec.specs.Inner.KeptTransitions.{kept_end};
-ghost use Rattle.graph_exec.specs.KeptRuns.{KeepsAs, KeepsPlans, kept_word};
+ghost use Rattle.graph_exec.specs.KeptRuns.{KeepsAs, KeepsPlans, kept_run_word};
 ghost use Rattle.graph_exec.specs.LastWords.{SourceLasts};
 ghost use Rattle.graph_exec.specs.Replays.{AgreesWith, IsJournalKept, IsReplayExpected, OfMade};
 
@@ -62,7 +62,7 @@ pub fn replay<S: Outcomes>(
     ensures kept { OfMade (λ run. IsJournalKept journal.promotions run.journal) result }
 
     // What became of the source.
-    ensures source { SourceLasts S.Outcomes outcomes.old outcomes.new (kept_word result) }
+    ensures source { SourceLasts S.Outcomes outcomes.old outcomes.new (kept_run_word result) }
     ensures questions { AskedByEnd events_kept (S.asked outcomes.old) (S.asked outcomes.new) journal.events result }
     ensures agrees { S.agrees outcomes.old cluster.now journal.events 0
         → OfMade (λ run. AgreesWith (S.agrees outcomes.new) cluster.now run.journal) result }

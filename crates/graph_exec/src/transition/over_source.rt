@@ -2,7 +2,7 @@
 
 ghost use Rattle.std.specs.Prelude.{◌≡◌, ◌≤◌, ◌+◌, true, length};
 ghost use Rattle.graph_exec.specs.Counts.{IsAbortAnswered};
-ghost use Rattle.graph_exec.specs.Questions.{AskedBeside, asked_beside};
+ghost use Rattle.graph_exec.specs.Questions.{AskedBeside, questions_beside};
 ghost use Rattle.graph_exec.specs.LastWords.{SourceLasts, WatcherLasts, transition_word};
 ghost use Rattle.graph_exec.specs.Promises.{EndsWell, KeepsPromises};
 ghost use Rattle.graph_exec.specs.Transitions.{Accords, EndsAs, WentByEnd, HasSaidAll, IsExpected};
@@ -31,7 +31,7 @@ pub fn run_watched<S: Outcomes, V: Watcher>(
     // What became of the source.
     ensures source { SourceLasts S.Outcomes outcomes.old outcomes.new (transition_word result) }
     ensures asked { S.asked outcomes.new ≤ S.asked outcomes.old + (length executor.old.graph.actions + 257) }
-    ensures questions { AskedBeside (asked_beside result) (S.asked outcomes.old) (S.asked outcomes.new) executor.old.since executor.new.since }
+    ensures questions { AskedBeside (questions_beside result) (S.asked outcomes.old) (S.asked outcomes.new) executor.old.since executor.new.since }
     ensures aborted { IsAbortAnswered executor.old executor.new (S.answered outcomes.old) (S.answered outcomes.new) }
     ensures said { S.steady outcomes.old ≡ true
         → HasSaidAll executor.old executor.new (S.rest outcomes.old) (S.rest outcomes.new) (S.over outcomes.old) (S.over outcomes.new) result }
@@ -67,7 +67,7 @@ pub fn run_transition<S: Outcomes>(executor: &mut Executor<'_>, outcomes: &mut S
 
     ensures source { SourceLasts S.Outcomes outcomes.old outcomes.new (transition_word (watched result)) }
     ensures asked { S.asked outcomes.new ≤ S.asked outcomes.old + (length executor.old.graph.actions + 257) }
-    ensures questions { AskedBeside (asked_beside (watched result)) (S.asked outcomes.old) (S.asked outcomes.new) executor.old.since executor.new.since }
+    ensures questions { AskedBeside (questions_beside (watched result)) (S.asked outcomes.old) (S.asked outcomes.new) executor.old.since executor.new.since }
     ensures aborted { IsAbortAnswered executor.old executor.new (S.answered outcomes.old) (S.answered outcomes.new) }
     ensures said { S.steady outcomes.old ≡ true
         → HasSaidAll executor.old executor.new (S.rest outcomes.old) (S.rest outcomes.new) (S.over outcomes.old) (S.over outcomes.new) (watched result) }

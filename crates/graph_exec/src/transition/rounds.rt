@@ -5,7 +5,7 @@ ghost use Rattle.cluster_types.specs.declared.journal.Event.TheVariants.{Begin};
 ghost use Rattle.cluster_types.specs.declared.run.RunLine.TheVariants as line;
 ghost use Rattle.cluster_types.specs.Steps.{IsWaiting, is_settled};
 ghost use Rattle.graph_exec.specs.Counts.{IsAbortAnswered};
-ghost use Rattle.graph_exec.specs.Questions.{AskedBeside, asked_beside};
+ghost use Rattle.graph_exec.specs.Questions.{AskedBeside, questions_beside};
 ghost use Rattle.graph_exec.specs.LastWords.{SourceLasts, WatcherLasts, none_failed};
 ghost use Rattle.graph_exec.specs.Inner.Rounds.{Advanced, Answered, IsBeginTold, StopsAs, asked_word, asks_left, begins_left, heard_in, round_word};
 ghost use Rattle.graph_exec.specs.Executors.{IsUnderWay, Went, transition_in};
@@ -167,7 +167,7 @@ impl<'c> Executor<'c> {
 
         ensures source { SourceLasts S.Outcomes outcomes.old outcomes.new (round_word result) }
         ensures asked { S.asked outcomes.new ≤ S.asked outcomes.old + 1 }
-        ensures questions { IfSome result (λ end. AskedBeside (asked_beside end) (S.asked outcomes.old) (S.asked outcomes.new) self.old.since self.new.since) }
+        ensures questions { IfSome result (λ end. AskedBeside (questions_beside end) (S.asked outcomes.old) (S.asked outcomes.new) self.old.since self.new.since) }
         ensures aborted { IsAbortAnswered self.old self.new (S.answered outcomes.old) (S.answered outcomes.new) }
         ensures agrees { Accords (S.agrees outcomes.old) self.old → Accords (S.agrees outcomes.new) self.new }
         ensures said { S.steady outcomes.old ≡ true → S.over outcomes.new ≡ false

@@ -8,7 +8,7 @@ use Rattle.live_run.specs.declared.line_saying.Said.{Said}
 use Rattle.live_run.specs.declared.line_saying.Said.TheVariants as said
 use Rattle.live_run.specs.AnswersToCome.{Coming, no_more, result_first, LineReaderAt, coming_of}
 
--- the same, where the source tells what it has left
+-- what is to come of these lines, where their source tells what it has left
 abbrev pub told_coming : Cluster → LineReaderAt → Option (List ℕ) → Option Coming
 told_coming c lines left = option_map (coming_of c lines) left
 

@@ -24,16 +24,11 @@ results_joined : (given more : List ResultLine) (others : Coming) → results_fi
 results_joined given more others = ap (λ (rs : List ResultLine). record { results = rs; stop = others.stop }) (sym (append_assoc given more others.results))
 
 -- whole lines, and whole lines behind them
-pub whole_then : (xs ys : List (List (List ℕ))) (held later held_now : List ℕ) → held ++ later ≡ bytes_of ys ++ held_now → StandWhole xs held → StandWhole ys held_now
-    → StandWhole (xs ++ ys) held_now
-whole_then xs ys held later held_now parts first second rest =
-    let there : held ++ (later ++ rest) ≡ bytes_of ys ++ (held_now ++ rest)
-    = sym (append_assoc held later rest) ∙ (ap (λ (t : List ℕ). t ++ rest) parts ∙ append_assoc (bytes_of ys) held_now rest) in
-    ap raw_lines (ap (λ (t : List ℕ). t ++ (held_now ++ rest)) (bytes_joined xs ys)
-    ∙ (append_assoc (bytes_of xs) (bytes_of ys) (held_now ++ rest) ∙ ap (λ (t : List ℕ). bytes_of xs ++ t) (sym there)))
-    ∙ (first (later ++ rest)
-    ∙ (ap (λ (t : List ℕ). xs ++ raw_lines t) there
-    ∙ (ap (λ (t : List (List (List ℕ))). xs ++ t) (second rest) ∙ sym (append_assoc xs ys (raw_lines (held_now ++ rest))))))
+pub whole_then : (xs ys : List (List (List ℕ))) → StandWhole xs → StandWhole ys → StandWhole (xs ++ ys)
+whole_then xs ys first second rest =
+    ap raw_lines (ap (λ (t : List ℕ). t ++ rest) (bytes_joined xs ys) ∙ append_assoc (bytes_of xs) (bytes_of ys) rest)
+    ∙ (first (bytes_of ys ++ rest)
+    ∙ (ap (λ (t : List (List (List ℕ))). xs ++ t) (second rest) ∙ sym (append_assoc xs ys (raw_lines rest))))
 
 -- what stands behind some of the first lines
 pub lines_joined : {X : Type 0} (xs ys : List X) (f g : List ℕ → List X) (before after : Option (List ℕ)) → option_map f before ≡ option_map (λ left. ys ++ g left) after
@@ -51,7 +46,7 @@ told_joined given more f g None (Some v) e = cc
 told_joined given more f g (Some u) None e = cc
 told_joined given more f g (Some u) (Some v) e = ap (option_map (results_first given)) e ∙ ap Some (results_joined given more (g v))
 
-none_whole : (at : LineReaderAt) → at.reading.ended ≡ false → (at.reading.ended ≡ false) × StandWhole [] at.reading.held
+none_whole : (at : LineReaderAt) → at.reading.ended ≡ false → (at.reading.ended ≡ false) × StandWhole []
 none_whole at unended = (unended, λ rest. refl)
 
 module _ (c : Cluster) where
@@ -78,7 +73,7 @@ module _ (c : Cluster) where
       whole = λ unended.
           let second = q.whole unended in
           let first = r.whole second.0 in
-          (first.0, whole_then xs ys b.reading.held later d.reading.held q.parts first.1 second.1);
+          (first.0, whole_then xs ys first.1 second.1);
       answered = λ others.
           ap (said_by c a) (append_assoc xs ys others)
           ∙ (r.answered (ys ++ others) ∙ (ap (results_first given) (q.answered others) ∙ results_joined given more (said_by c d others)));

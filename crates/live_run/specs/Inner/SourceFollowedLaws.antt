@@ -1,7 +1,6 @@
 -- A source of answers that are read from lines has come from itself, and from what it came from on the way; and so has a writer of lines.
 use Rattle.std.proofs.Common.{◌≡◌, ◌≢◌, ℕ, Bool, true, false, Option, Some, None, List, [], ◌∷◌, ◌++◌, option_map, append-nil, append_assoc, refl, ap, sym, subst, ◌∙◌}
 use Rattle.std.proofs.lemmas.Grind.{flat_map-append}
-use Rattle.cluster_io.specs.Streams.{Adds}
 use Rattle.cluster_io.proofs.Pieces.{Adds-then}
 use Rattle.cluster_types.specs.declared.run.RunLine.{RunLine}
 use Rattle.cluster_types.specs.Texts.{run_line}

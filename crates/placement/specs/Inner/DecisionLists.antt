@@ -30,12 +30,12 @@ abbrev pub is_active_by_cell : Cluster → States → Decision → ℕ → Bool
 is_active_by_cell c states d n = option_map_or (λ (cell : Cell). is_active_for d cell.state) (cell_by c states (leaf_of d) n) false
 
 module _ (c : Cluster) (states : States) (scores : ScoreTable) where
-  abbrev pub totals_where_by : (ℕ → Bool) → Decision → List ℤ
-  totals_where_by passes d = map (score_in scores d) (filter passes (range_with_len 0 (length c.nodes)))
+  abbrev pub bases_where_by : (ℕ → Bool) → Decision → List ℤ
+  bases_where_by passes d = map (score_in scores d) (filter passes (range_with_len 0 (length c.nodes)))
 
   abbrev pub compared_key : Decision → Key
   compared_key d = record {
     priority = priority c (leaf_of d);
-    active = greatest_of (totals_where_by (is_active_by_cell c states d) d);
-    usable = greatest_of (totals_where_by (is_usable_by c states) d);
+    active = greatest_of (bases_where_by (is_active_by_cell c states d) d);
+    usable = greatest_of (bases_where_by (is_usable_by c states) d);
   }

@@ -1,9 +1,10 @@
--- What decisions lend to those that they need: their keys, step by step (follows from the definition of effective keys).
-use Rattle.std.specs.Prelude.{◌≡◌, ℕ, ◌*◌, ◌<◌, Bool, false, if◌then◌else◌, Option, Some, None, List, length, map, filter, fold, slice_get, slice_set, unwrap_or}
+-- What decisions lend to those that they need: their keys, link by link (follows from the definition of effective keys).
+use Rattle.std.specs.Prelude.{◌≡◌, ℕ, suc, zero, ◌*◌, ◌<◌, ◌&&◌, ◌||◌, Bool, false, if◌then◌else◌, Option, Some, None, List, length, slice_get, slice_set, unwrap_or}
+use Rattle.std.specs.List.{list_any}
 use Rattle.cluster_types.specs.declared.cluster.Cluster.{Cluster}
 use Rattle.edges.specs.declared.edge.Edge.{Edge}
 use Rattle.cluster_types.specs.declared.placement.Decision.{Decision}
-use Rattle.cluster_types.specs.Decisions.{Key, greater_key, is_among, is_less, leaf_of, needs_through}
+use Rattle.cluster_types.specs.Decisions.{Key, greater_key, is_among, is_less, is_same_decision, leaf_of, needs}
 use Rattle.placement.specs.Inner.Flags.{slot_of}
 
 -- a key for each decision of so many leaves, in its slot, and none for what isn't decided
@@ -46,6 +47,7 @@ lent_along slots link = if raises slots link then slice_set slots link.before (k
 abbrev pub keys_among : List Decision → (Decision → Key) → Decision → Option Key
 keys_among ds key d = if is_among ds d then Some (key d) else None
 
--- the greatest key among the decision and those that need it through at most so many needs
-abbrev pub effective_within : Cluster → List Decision → (Decision → Key) → ℕ → Decision → Key
-effective_within c ds key most d = fold greater_key (key d) (map key (filter (λ e. needs_through c ds most e d) ds))
+-- the one decision needs the other through at most so many needs: so many passes lend the key of the one to the other
+abbrev pub needs_within : Cluster → List Decision → ℕ → Decision → Decision → Bool
+needs_within c ds zero d e = false
+needs_within c ds (suc most) d e = list_any (λ f. needs c d f && (is_same_decision f e || needs_within c ds most f e)) ds

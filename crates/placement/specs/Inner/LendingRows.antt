@@ -22,7 +22,7 @@ module _ (c : Cluster) (states : States) where
 
   -- the leaf with the lenders below one that join it
   abbrev pub joined_below : ℕ → ℕ → List ℕ
-  joined_below r s = fold with_lender_by (r ∷ []) (filter (λ t. is_tied c (length c.leaves) t r) (range_with_len 0 s))
+  joined_below r s = fold with_lender_by (r ∷ []) (filter (λ t. is_tied c t r) (range_with_len 0 s))
 
   -- the same of all lenders
   abbrev pub all_joined : ℕ → List ℕ

@@ -1,5 +1,5 @@
 -- Promotion scores as they are kept and counted (follows from the definition of promotion scores).
-use Rattle.std.specs.Prelude.{Bool, false, is_none, ℕ, ◌+◌, ℤ, Option, List, ◌∷◌, ◌++◌, slice_get, []}
+use Rattle.std.specs.Prelude.{Bool, false, is_none, ℕ, ℤ, Option, List, ◌∷◌, ◌++◌, slice_get, []}
 use Rattle.std.specs.Option.{option_map_or}
 use Rattle.cluster_types.specs.declared.cluster.Cluster.{Cluster}
 use Rattle.cluster_types.specs.declared.journal.Promotion.{Promotion}

@@ -1,8 +1,8 @@
 -- Marks on leaves that must be with a leaf, as they are set tie by tie (follows from the definition of ties).
-use Rattle.std.specs.Prelude.{◌≡◌, ◌+◌, ◌≤◌, ℕ, ◌==◌, ◌&&◌, ◌||◌, Bool, true, not, if◌then◌else◌, List, length, count_by, slice_index_or, slice_set}
+use Rattle.std.specs.Prelude.{◌≡◌, ℕ, ◌==◌, ◌&&◌, ◌||◌, Bool, true, not, if◌then◌else◌, List, length, count_by, slice_index_or, slice_set}
 use Rattle.listed.specs.Flags.{is_marked}
 use Rattle.cluster_types.specs.declared.cluster.Cluster.{Cluster}
-use Rattle.cluster_types.specs.Terms.{is_tied}
+use Rattle.cluster_types.specs.Terms.{IsTied}
 use Rattle.edges.specs.declared.edge.Edge.{Edge}
 
 -- the leaf is there and has no mark
@@ -26,9 +26,7 @@ abbrev pub is_missed : ℕ → List Bool → Edge → Bool
 is_missed r marks tie = lacks_mark marks tie.after && leads r marks tie
 
 module _ (c : Cluster) where
-  -- each leaf with a mark is tied to r, by a chain that isn't longer than there are marks
+  -- each leaf with a mark is tied to r
   pub record AreTied (r : ℕ) (marks : List Bool) : Type 0 where
     pub size : length marks ≡ length c.leaves
-    pub most : ℕ
-    pub enough : most + unmarked marks ≤ length c.leaves
-    pub tied : (s : ℕ) → is_marked marks s ≡ true → is_tied c most s r ≡ true
+    pub tied : (s : ℕ) → is_marked marks s ≡ true → IsTied c s r

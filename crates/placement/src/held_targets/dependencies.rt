@@ -24,7 +24,7 @@ pub struct Dependency {
 fn may_hold(order: &Order) -> bool
     ensures { result ≡ spec.may_hold_back order.now }
 {
-    order.is_mandatory() && order.first_op.is_up() && order.then_op.is_up()
+    order.is_mandatory() && order.first_op.is_giving() && order.then_op.is_giving()
 }
 
 /// Whether the leaf holds the role on some node.

@@ -4,6 +4,7 @@ ghost use Rattle.std.specs.Prelude.{◌≡◌, ℕ, Option, false, if◌then◌e
 ghost use Rattle.cluster_types.specs.declared.placement.Decision.{Decision as DecisionOf};
 ghost use Rattle.cluster_types.specs.Decisions as decisions;
 ghost use Rattle.cluster_types.specs.Valid.{IsValid};
+ghost use Rattle.placement.specs.Inner.EffectiveKeys.{effective_in};
 ghost use Rattle.placement.specs.Inner.Lending as spec;
 ghost use Rattle.placement.specs.Inner.Lending.{AreKeys};
 
@@ -75,7 +76,7 @@ pub(crate) fn lent_keys(
     ensures { IfOk result (λ slots. (key : DecisionOf → decisions.Key) → keys.now ≡ map key set.now.list.items
         → AreKeys (length set.now.cluster.now.leaves)
         (spec.keys_among set.now.list.items
-        (spec.effective_within set.now.cluster.now set.now.list.items key (length set.now.list.items))) slots.items) }
+        (effective_in set.now.cluster.now set.now.list.items key)) slots.items) }
 {
     let links = links_in_order(alloc, set)?;
     let mut slots = own_keys(alloc, set, keys)?;

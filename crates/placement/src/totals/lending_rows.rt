@@ -5,7 +5,7 @@ ghost use Rattle.cluster_types.specs.Valid.{IsValid};
 ghost use Rattle.placement.specs.Inner.LendingRows as spec;
 ghost use Rattle.placement.specs.Inner.OwnRows.{terms_by};
 ghost use Rattle.placement.specs.Rows.{IsRow};
-ghost use Rattle.placement.specs.Ties.{AreTies, tied_within};
+ghost use Rattle.placement.specs.Ties.{AreTies, tied_leaves};
 
 use crate::totals::adding::{both, copy_of};
 use crate::totals::fitting::leaves_a_node;
@@ -39,7 +39,7 @@ fn lend(
 
 /// The row of the own terms of the leaf and of the lenders that join it, tried in their order, where the leaves with a mark lend.
 fn joined_row(alloc: Global, own: &OwnRows, marks: &[bool], leaf: LeafId) -> Result<Row, NoMemory>
-    requires marks { marks.now ≡ tied_within own.now.cluster.now (length own.now.cluster.now.leaves) leaf }
+    requires marks { marks.now ≡ tied_leaves own.now.cluster.now leaf }
     requires leaf { leaf < length own.now.cluster.now.leaves }
     ensures { IfOk result (λ row. IsRow (length own.now.cluster.now.nodes)
         (terms_by own.now.cluster.now own.now.states.now (spec.all_joined own.now.cluster.now own.now.states.now leaf)) row) }

@@ -1,7 +1,7 @@
 //! The leaves that must be with a leaf. A tie is an edge from the primary of a colocation to its dependent, where the colocation ties the one to
 //! the other for good.
 
-ghost use Rattle.std.specs.Prelude.{◌≡◌, ◌≤◌, ◌+◌, List, false, cond, length, Contains, IfOk};
+ghost use Rattle.std.specs.Prelude.{◌≡◌, ◌≤◌, ◌+◌, List, false, cond, Contains, IfOk};
 ghost use Rattle.cluster_types.specs.declared.cluster.Cluster.{Cluster as ClusterOf};
 ghost use Rattle.cluster_types.specs.Terms as terms;
 ghost use Rattle.cluster_types.specs.Valid.{IsValid};
@@ -124,7 +124,7 @@ pub fn tied(
 ) -> Result<Vec<bool>, AllocError>
     requires valid { IsValid cluster.now }
     requires ties { spec.AreTies cluster.now ties.now }
-    ensures { IfOk result (λ marks. marks.items ≡ spec.tied_within cluster.now (length cluster.now.leaves) leaf) }
+    ensures { IfOk result (λ marks. marks.items ≡ spec.tied_leaves cluster.now leaf) }
 {
     let mut marks = vec![in alloc; false; cluster.leaves.len()]?;
     let mut changed = true;

@@ -3,7 +3,7 @@ use Rattle.std.specs.Prelude.{◌≡◌, ℕ, ◌<◌, ◌==◌, Bool, false, Op
 use Rattle.std.specs.Option.{option_map_or}
 use Rattle.cluster_types.specs.declared.journal.Action.{Action}
 use Rattle.cluster_types.specs.declared.rules.Order.{Order}
-use Rattle.cluster_types.specs.Precedence.{LeafOnNode, change_cell, is_serialized}
+use Rattle.cluster_types.specs.Precedence.{LeafOnNode, step_cell, is_serialized}
 use Rattle.planner.specs.declared.precedence.chains.Changes.{Changes}
 use Rattle.planner.specs.Chains.{changes_at, IsChained}
 
@@ -25,7 +25,7 @@ module _ (actions : List Action) where
 
   -- the node of the cell that the action at a position changes
   abbrev pub changed_node_at : ℕ → Option ℕ
-  changed_node_at place = option_map_or (λ a. changed_node (change_cell a)) (slice_get actions place) None
+  changed_node_at place = option_map_or (λ a. changed_node (step_cell a)) (slice_get actions place) None
 
   -- the positions at which a cell on the node changes
   abbrev pub node_places : ℕ → List ℕ → List ℕ

@@ -32,7 +32,10 @@ pub fn need_of(needs: &[CellNeed], nodes: u32, leaf: LeafId, node: NodeId) -> Ce
 pub fn is_cycling(order: &Order) -> bool
     ensures { result ≡ cycling.is_cycling order.now }
 {
-    order.is_mandatory() && order.symmetrical && order.first_op.is_up() && order.then_op.is_up()
+    order.is_mandatory()
+        && order.symmetrical
+        && order.first_op.is_giving()
+        && order.then_op.is_giving()
 }
 
 /// Whether the target is one of the role that the word gives.

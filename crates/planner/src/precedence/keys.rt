@@ -91,7 +91,7 @@ fn gives_any(action: Action) -> Option<Key>
 }
 
 pub fn change_key(action: Action) -> Option<Key>
-    ensures { result ≡ precedence.change_cell action }
+    ensures { result ≡ precedence.step_cell action }
 {
     match action {
         Action::Operation {

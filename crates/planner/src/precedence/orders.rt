@@ -86,7 +86,7 @@ fn turned_join(order: &Order) -> Join
 fn inverse_join(order: &Order) -> Join
     ensures { result ≡ joins.inverse_join order.now }
 {
-    if order.first_op.is_up() && order.then_op.is_up() {
+    if order.first_op.is_giving() && order.then_op.is_giving() {
         takers_join(order)
     } else {
         turned_join(order)

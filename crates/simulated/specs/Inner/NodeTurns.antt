@@ -5,7 +5,7 @@ use Rattle.simulated.specs.declared.real.Standing.{Standing}
 use Rattle.simulated.specs.declared.turn.Turn.{Turn}
 use Rattle.simulated.specs.declared.turn.Turn.TheVariants as turn
 use Rattle.cases.specs.Draws.{draw}
-use Rattle.simulated.specs.RealWorlds.{World, is_node_off, is_node_up}
+use Rattle.simulated.specs.RealWorlds.{RealWorld, is_node_off, is_node_up}
 
 -- what comes of a node that was drawn, by the first number, whether the cluster has it, and how it stands
 abbrev pub node_turn_from : ℕ → ℕ → Bool → Standing → Option Turn
@@ -15,7 +15,7 @@ node_turn_from die node has stands =
     else None)
 
 -- what comes of the node that is drawn next, by the first number
-abbrev pub node_turn : Cluster → ℕ → World → Option ℕ → Option Turn
+abbrev pub node_turn : Cluster → ℕ → RealWorld → Option ℕ → Option Turn
 node_turn c number w None = None
 node_turn c number w (Some die) =
     node_turn_from die (draw number (w.drawn + 1) (length c.nodes)) (nat_lt (draw number (w.drawn + 1) (length c.nodes)) (length c.nodes))

@@ -13,8 +13,8 @@ loop-lender-preserved-then-not-flag_at c =
     let cluster = own.cluster.now in
     let states = own.states.now in
     let mark : get_or c.args.marks.now l.lender false ≡ false = search rules in
-    let is = get_or-map-range_with_len (λ s. is_tied cluster (length cluster.leaves) s c.args.leaf) 0 (length cluster.leaves) l.lender l.lender false (search rules) (omega arith) in
-    let free : is_tied cluster (length cluster.leaves) l.lender c.args.leaf ≡ false = sym is ∙ (sym (ap (λ m. get_or m l.lender false) c.requires.marks) ∙ mark) in
+    let is = get_or-map-range_with_len (λ s. is_tied cluster s c.args.leaf) 0 (length cluster.leaves) l.lender l.lender false (search rules) (omega arith) in
+    let free : is_tied cluster l.lender c.args.leaf ≡ false = sym is ∙ (sym (ap (λ m. get_or m l.lender false) c.requires.marks) ∙ mark) in
     subst (λ js. IsJoined cluster states js l.joined) (sym (lend-skip cluster states c.args.leaf l.lender free)) l.invariant
 
 pub loop-lender-preserved : goal.loop-lender-preserved
@@ -24,8 +24,8 @@ loop-lender-preserved c =
     let cluster = own.cluster.now in
     let states = own.states.now in
     let mark : get_or c.args.marks.now l.lender false ≡ true = search rules in
-    let is = get_or-map-range_with_len (λ s. is_tied cluster (length cluster.leaves) s c.args.leaf) 0 (length cluster.leaves) l.lender l.lender false (search rules) (omega arith) in
-    let tied : is_tied cluster (length cluster.leaves) l.lender c.args.leaf ≡ true = sym is ∙ (sym (ap (λ m. get_or m l.lender false) c.requires.marks) ∙ mark) in
+    let is = get_or-map-range_with_len (λ s. is_tied cluster s c.args.leaf) 0 (length cluster.leaves) l.lender l.lender false (search rules) (omega arith) in
+    let tied : is_tied cluster l.lender c.args.leaf ≡ true = sym is ∙ (sym (ap (λ m. get_or m l.lender false) c.requires.marks) ∙ mark) in
     let js = with_lender_by cluster states (joined_below cluster states c.args.leaf l.lender) l.lender in
     let more : IsJoined cluster states js c.in_ok-joined-2.joined = search rules in
     subst (λ js. IsJoined cluster states js c.in_ok-joined-2.joined) (sym (lend-more cluster states c.args.leaf l.lender tied)) more

@@ -1,4 +1,4 @@
-use Rattle.loops.proofs.OneRanking.{rank_rises}
+use Rattle.loops.proofs.RankChains.{rank_rises}
 use Rattle.loops.proofs.rank_laws.ranks_rise.Goals as goal
 
 pub returns : goal.returns

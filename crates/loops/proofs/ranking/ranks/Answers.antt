@@ -2,8 +2,7 @@ use Rattle.std.proofs.Common.{◌≡◌, ◌<◌, ◌*◌, ℕ, length, slice_in
 use Rattle.edges.specs.LongestChains.{longest}
 use Rattle.loops.specs.Inner.Edges.{step_edges}
 use Rattle.loops.proofs.FromValid.{valid_order}
-use Rattle.loops.proofs.LinkLoops.{steps_within}
-use Rattle.loops.proofs.ChainWays.{edges_free}
+use Rattle.loops.proofs.LinkLoops.{edges_free, steps_within}
 use Rattle.loops.proofs.RankLists.{are_ranks}
 use Rattle.loops.proofs.ranking.ranks.Goals as goal
 
@@ -27,4 +26,4 @@ returns c =
     let each : (x : ℕ) → x < 4 * length c.args.cluster.now.leaves
     → slice_index_or c.in_ok-ranks.ranks.items x 0 ≡ longest (4 * length c.args.cluster.now.leaves) (step_edges c.args.cluster.now) x
     = rw edges at (rw c.len.ensures at c.in_ok-ranks.ensures.longest) in
-    are_ranks c.args.cluster.now (valid_order c.args.cluster.now c.requires.orders) c.in_ok-ranks.ranks.items size each
+    are_ranks c.args.cluster.now (valid_order c.args.cluster.now c.requires.orders) c.requires.steps c.in_ok-ranks.ranks.items size each

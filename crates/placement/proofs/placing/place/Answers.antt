@@ -1,11 +1,12 @@
-use Rattle.std.proofs.Common.{rules, ◌≡◌, length, map, ap, subst, sym, ◌∙◌}
+use Rattle.std.proofs.Common.{rules, ◌≡◌, ◌<◌, length, map, ap, subst, sym, ◌∙◌}
 use Rattle.std.specs.List.{range_with_len}
 use Rattle.std.proofs.lemmas.Result.{IfOk-at_ok}
 use Rattle.cluster_types.specs.declared.placement.Table.{Table}
 use Rattle.cluster_types.specs.Held.{AreTargets}
 use Rattle.cluster_types.specs.Pins.{pin_of}
-use Rattle.cluster_types.specs.Reasons.{HasReason}
+use Rattle.cluster_types.specs.Reasons.{HasReason, leaf_reason}
 use Rattle.cluster_types.specs.Tables.{Targets, targets_of}
+use Rattle.cluster_types.proofs.LeafReasons.{reason_by_list}
 use Rattle.placement.specs.Inner.ChosenTable.{AreChosen}
 use Rattle.placement.proofs.placing.place.Goals as goal
 
@@ -31,6 +32,7 @@ returns c = λ events promotions told totals.
     let cells = IfOk-at_ok _ three.ensures.1 c.targets-table.ensures.size ∙ IfOk-at_ok _ two.ensures.1 c.choices-choices.ensures.cells in
     let shown = IfOk-at_ok _ last.ensures.1 c.reasons-none.ensures.reasons events promotions told (c.as_slice-3.ensures ∙ pins_3)
     (subst (λ k. AreTargets cl events (targets_of k.table) (targets_of three.table)) (sym choices_3) targets) in
+    let leaves = IfOk-at_ok _ last.ensures.1 c.reasons-none.ensures.leaves in
     record {
       decisions = chosen.decisions;
       in_order = chosen.in_order;
@@ -40,7 +42,8 @@ returns c = λ events promotions told totals.
       cells = ap (λ (t : Table). length t.targets) table ∙ cells;
       targets = subst (λ (t : Targets). AreTargets cl events t (targets_of last.table)) chosen.targets
           (subst (λ (t : Table). AreTargets cl events (targets_of two.choices.table) (targets_of t)) (sym table) targets);
-      leaves = IfOk-at_ok _ last.ensures.1 c.reasons-none.ensures.leaves;
-      reasons = λ r reason is. subst (λ (t : Targets). HasReason cl events t (targets_of last.table) r reason) (ap (λ k. targets_of k.table) choices_3 ∙ chosen.targets)
-          (subst (λ (t : Table). HasReason cl events (targets_of three.choices.table) (targets_of t) r reason) (sym table) (shown r reason is));
+      leaves = leaves;
+      reasons = λ r low. subst (λ (t : Targets). HasReason cl events t (targets_of last.table) r (leaf_reason last.none r)) (ap (λ k. targets_of k.table) choices_3 ∙ chosen.targets)
+          (subst (λ (t : Table). HasReason cl events (targets_of three.choices.table) (targets_of t) r (leaf_reason last.none r)) (sym table)
+          (reason_by_list (HasReason cl events (targets_of three.choices.table) (targets_of three.table) r) last.none r (subst (λ k. r < k) (sym leaves) low) (shown r)));
     }

@@ -2,7 +2,7 @@ use Rattle.std.proofs.Common.{◌≡◌, ℕ, Some, arith}
 use Rattle.cluster_io.proofs.Bearing.{Bears-as}
 use Rattle.cluster_io.specs.LineReaders.{reading_of}
 use Rattle.live_run.specs.Inner.ComingSteps.{said_came}
-use Rattle.live_run.specs.LineSays.{line_says}
+use Rattle.live_run.specs.LineSays.{due_line_says}
 use Rattle.live_run.specs.declared.result_reader.Came.TheVariants as came
 use Rattle.live_run.specs.declared.line_saying.Said.{Said}
 use Rattle.live_run.specs.declared.line_saying.Said.TheVariants as said
@@ -39,7 +39,7 @@ pub returns-in-Line-clause-ready : goal.returns-in-Line-clause-ready
 returns-in-Line-clause-ready g c =
     rw (c.take_line.ensures.lines, c.take_line.ensures.place)
     (ready_behind _ _ _ _ (c.in-Line.ensures.answered c.requires.going) c.args.self.now.at
-    (line_says c.args.names.now c.args.self.now.at (reading_of c.line.new.self).raw) c.requires.ready c.take_line.ensures.fits)
+    (due_line_says c.args.names.now c.args.self.now.at (reading_of c.line.new.self).raw) c.requires.ready c.take_line.ensures.fits)
 
 pub returns-in-Line-clause-fewer : goal.returns-in-Line-clause-fewer
 returns-in-Line-clause-fewer g c none = rw c.take_line.ensures.lines (fewer_left _ _ _ _ (c.in-Line.ensures.answered c.requires.going))
@@ -47,7 +47,7 @@ returns-in-Line-clause-fewer g c none = rw c.take_line.ensures.lines (fewer_left
 pub returns-in-Line-clause-counted : goal.returns-in-Line-clause-counted
 returns-in-Line-clause-counted g c =
     rw (c.take_line.ensures.came, c.take_line.ensures.place)
-    (before_behind c.args.self.now.at (line_says c.args.names.now c.args.self.now.at (reading_of c.line.new.self).raw) _)
+    (before_behind c.args.self.now.at (due_line_says c.args.names.now c.args.self.now.at (reading_of c.line.new.self).raw) _)
 
 -- it isn't given
 

@@ -1,7 +1,8 @@
 use Rattle.std.proofs.Common.{rules, ◌≡◌, ◌+◌, ℕ, suc, fold, length, sym, ap, subst, ◌∙◌, arith}
 use Rattle.std.specs.List.Sorted.{IsPermutation}
 use Rattle.std.proofs.lemmas.List.Sorted.{Contains-permutation, IsPermutation-sym}
-use Rattle.placement.specs.Inner.Lending.{AreKeys, effective_within, keys_among, lent_along}
+use Rattle.placement.specs.Inner.EffectiveKeys.{effective_in}
+use Rattle.placement.specs.Inner.Lending.{AreKeys, keys_among, lent_along}
 use Rattle.placement.specs.Inner.Links.{links_in}
 use Rattle.placement.proofs.LentKeys.{Turned, all-lent, first-turn, settled, turned}
 use Rattle.placement.proofs.order.lending.lent_keys.Goals as goal
@@ -46,7 +47,7 @@ returns-then-not-raised c = λ key are.
     = settled cluster ds key c.requires.valid set.within links
     (λ e there. Contains-permutation links (links_in cluster ds) e (IsPermutation-sym (links_in cluster ds) links same) there)
     (λ e there. Contains-permutation (links_in cluster ds) links e same there) l._turn l.slots.items (l.invariant key are) (sym new ∙ none) (length ds) in
-    subst (AreKeys (length cluster.leaves) (keys_among ds (effective_within cluster ds key (length ds)))) (sym none)
+    subst (AreKeys (length cluster.leaves) (keys_among ds (effective_in cluster ds key))) (sym none)
     (all-lent cluster ds key l.slots.items last)
 
 pub returns : goal.returns

@@ -3,9 +3,8 @@ use Rattle.std.proofs.lemmas.List.{take_all}
 use Rattle.cluster_types.specs.declared.leaf.Op.TheVariants.{Stop}
 use Rattle.cluster_types.specs.declared.rules.Order.{Order}
 use Rattle.cluster_types.specs.Numbers.{rank, step_of}
-use Rattle.loops.proofs.FromValid.{valid_order}
 use Rattle.lemmas.proofs.Members.{all_more}
-use Rattle.loops.proofs.OneRanking.{rank_bounded}
+use Rattle.loops.proofs.RankChains.{rank_bounded}
 use Rattle.planner.proofs.needed_actions.passing.top_level.Goals as goal
 
 pub overflow_add-top : goal.overflow_add-top
@@ -13,7 +12,7 @@ overflow_add-top c =
     let cl = c.args.cluster.now in
     let is = c.rank-level.ensures.ranked cl c.requires.ranked in
     let limit = c.requires.valid.limits.leaves in
-    let b = rank_bounded cl (valid_order cl c.requires.valid.orders) c.requires.valid.steps (step_of Stop c.order-item.result.first) in
+    let b = rank_bounded cl (step_of Stop c.order-item.result.first) in
     omega arith
 
 pub loop-order-preserved-then-level-top : goal.loop-order-preserved-then-level-top

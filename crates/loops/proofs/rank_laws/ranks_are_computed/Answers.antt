@@ -1,5 +1,5 @@
 use Rattle.loops.proofs.RankChains.{rank_computed}
-use Rattle.loops.proofs.rank_laws.rank_is_computed.Goals as goal
+use Rattle.loops.proofs.rank_laws.ranks_are_computed.Goals as goal
 
 pub returns : goal.returns
 returns c = rank_computed

@@ -3,7 +3,7 @@ use Rattle.crm_lex.specs.Reading.{reads_line}
 use Rattle.live_run.specs.LineSays.{read_says}
 use Rattle.live_run.specs.declared.line_saying.Said.TheVariants as said
 use Rattle.live_run.proofs.WordsSaid.{words_read, words_refused}
-use Rattle.live_run.proofs.line_saying.line_says.Goals as goal
+use Rattle.live_run.proofs.line_saying.due_line_says.Goals as goal
 
 pub returns-in-Ok-clause-says : goal.returns-in-Ok-clause-says
 returns-in-Ok-clause-says c =

@@ -1,5 +1,5 @@
 use Rattle.planner.proofs.OwnPlaces.{own_place}
-use Rattle.planner.proofs.number_laws.needed_actions_have_places_of_their_own.Goals as goal
+use Rattle.planner.proofs.number_laws.needed_actions_of_places_are_unique.Goals as goal
 
 pub returns : goal.returns
 returns c = λ cl es ps placed actions x y valid is needed h k e.
